@@ -1,0 +1,17 @@
+-- Document 01 as definitions, in the page's order. Vocabulary first: tests, bytes, text.
+pub mod Tests
+pub mod Bytes
+pub mod Text
+pub mod Numbers
+pub mod With
+pub mod Record
+pub mod Refusals
+pub mod Table
+pub mod Thresholds
+pub mod Image
+pub mod Transfer
+pub mod Security
+pub mod Module
+pub mod Log
+pub mod Replay
+pub mod Cases

@@ -1,0 +1,65 @@
+-- Document 01, "The replay program": the records of a log.
+-- Assumes nothing.
+use Prim.Native.Nat.{ℕ, _+_, _*_, _/_, _%_}
+use mathlib.Core.Bool.{Bool, not, _&&_}
+use mathlib.Core.List.{List}
+use lib.ListN.{length, take, drop}
+use Rattle.rules.specs.Tests.{if_then_else_, _≤?_, _=?_}
+use Rattle.rules.specs.Bytes.{numberAt, zeros?}
+use Rattle.rules.specs.declared.Entry.{Entry}
+use Rattle.rules.specs.declared.Entry.the-variants.{Call, Tick, Power, Bad}
+
+-- "544-byte records"
+abbrev pub recordSize : ℕ
+recordSize = 544
+
+-- "kind (1 call, 2 tick, 3 power), host (1 to 4), revision (2), function (2), request length (2, at most 536), request padded with zeros to 536."
+abbrev pub kindIn : List ℕ → ℕ
+kindIn bytes = numberAt 1 0 bytes
+
+abbrev pub hostIn : List ℕ → ℕ
+hostIn bytes = numberAt 1 1 bytes
+
+abbrev pub revisionIn : List ℕ → ℕ
+revisionIn bytes = numberAt 2 2 bytes
+
+abbrev pub functionIn : List ℕ → ℕ
+functionIn bytes = numberAt 2 4 bytes
+
+abbrev pub lengthIn : List ℕ → ℕ
+lengthIn bytes = numberAt 2 6 bytes
+
+abbrev pub requestIn : List ℕ → List ℕ
+requestIn bytes = take (lengthIn bytes) (drop 8 bytes)
+
+-- the request is padded with zeros
+abbrev pub padded : List ℕ → Bool
+padded bytes = zeros? (drop (8 + lengthIn bytes) bytes)
+
+-- a good call record
+abbrev pub goodCall : List ℕ → Bool
+goodCall bytes = (1 ≤? hostIn bytes) && (hostIn bytes ≤? 4) && (lengthIn bytes ≤? 536) && padded bytes
+
+-- "Ticks and power have every byte after the kind zero."
+abbrev pub bare : List ℕ → Bool
+bare bytes = zeros? (drop 1 bytes)
+
+-- "Any other record is bad and skipped."
+unfoldable pub entryOf : List ℕ → Entry
+entryOf bytes =
+    if not (length bytes =? recordSize) then Bad
+    else if kindIn bytes =? 1 && goodCall bytes then Call (hostIn bytes) (revisionIn bytes) (functionIn bytes) (lengthIn bytes)
+    else if kindIn bytes =? 2 && bare bytes then Tick
+    else if kindIn bytes =? 3 && bare bytes then Power
+    else Bad
+
+-- the whole records of a log, and record j of them
+abbrev pub recordsIn : (log : List ℕ) → ℕ
+recordsIn log = length log / recordSize
+
+abbrev pub recordAt : (log : List ℕ) (j : ℕ) → List ℕ
+recordAt log j = take recordSize (drop (j * recordSize) log)
+
+-- "A tail under 544 bytes is short."
+abbrev pub shortTail : (log : List ℕ) → Bool
+shortTail log = not (length log % recordSize =? 0)

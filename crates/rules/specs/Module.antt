@@ -1,0 +1,138 @@
+-- Document 01, "What the module model covers": "device record, staging area and one call, tick or power cycle go in; answer bytes and the new record and
+-- area come out." Bytes are decoded to a call; its checks are made in the page's order; then the step; then the answer's bytes.
+-- Assumes nothing.
+use Prim.Native.Nat.{ℕ}
+use mathlib.Core.List.{List, [], _∷_, _++_}
+use Rattle.rules.specs.Bytes.{le}
+use Rattle.rules.specs.With.{_with-transfer_, _with-thresholds_, _with-security_}
+use Rattle.rules.specs.Refusals.{Check, verdict, R1Check, eventChecks, statusBytes, answerLength, answerBytes, answerAfter, deviceAfter, areaAfter}
+use Rattle.rules.specs.Table.{rowOf, servedCheck, lengthCheck, mask}
+use Rattle.rules.specs.Thresholds.{ThresholdCall, GetThreshold, setThresholdOf, thresholdChecks, thresholdAnswer, thresholdChange}
+use Rattle.rules.specs.Transfer.{TransferCall, GetFwInfo, Start, sendOf, finishOf, queryOf, transferChecks, transferAnswer, transferChange, transferArea, tickChange, transferPower}
+use Rattle.rules.specs.Security.{SecurityCall, GetSecurityState, setPassphraseOf, Disable, Unlock, Freeze, securityChecks, securityAnswer, securityChange, securityPower}
+use Rattle.rules.specs.declared.Verdict.{Verdict}
+use Rattle.rules.specs.declared.Reply.{Reply}
+use Rattle.rules.specs.declared.Device.{Device}
+use Rattle.rules.specs.declared.Function.{Function}
+use Rattle.rules.specs.declared.Function.the-variants as Function′
+
+-- a call, decoded: function 0 with its revision, or a call on one part of the record; an index that the table lacks has no call
+pub data Call : Type 0 where
+  OnMask : (revision : ℕ) → Call
+  OnThresholds : ThresholdCall → Call
+  OnTransfer : TransferCall → Call
+  OnSecurity : SecurityCall → Call
+  OnNothing : Call
+
+abbrev pub callOf : Function → (revision : ℕ) (request : List ℕ) → Call
+callOf Function′.Mask revision request = OnMask revision
+callOf Function′.GetThreshold revision request = OnThresholds GetThreshold
+callOf Function′.GetFwInfo revision request = OnTransfer GetFwInfo
+callOf Function′.Start revision request = OnTransfer Start
+callOf Function′.Send revision request = OnTransfer (sendOf request)
+callOf Function′.Finish revision request = OnTransfer (finishOf request)
+callOf Function′.Query revision request = OnTransfer (queryOf request)
+callOf Function′.SetThreshold revision request = OnThresholds (setThresholdOf request)
+callOf Function′.GetSecurityState revision request = OnSecurity GetSecurityState
+callOf Function′.SetPassphrase revision request = OnSecurity (setPassphraseOf request)
+callOf Function′.Disable revision request = OnSecurity (Disable request)
+callOf Function′.Unlock revision request = OnSecurity (Unlock request)
+callOf Function′.Freeze revision request = OnSecurity Freeze
+callOf Function′.Unserved revision request = OnNothing
+
+-- "then each function's checks as listed"
+abbrev pub checks : Device → Call → List Check
+checks d (OnMask revision) = []
+checks d (OnThresholds call) = thresholdChecks call
+checks d (OnTransfer call) = transferChecks (d .transfer) call
+checks d (OnSecurity call) = securityChecks (d .security) call
+checks d OnNothing = []
+
+-- the bytes of an accepted call's answer: "a 2-byte status and a 2-byte extended number .., but for function 0"
+abbrev pub accepted : Device → Call → List ℕ
+accepted d (OnMask revision) = le 4 (mask revision)
+accepted d (OnThresholds call) = statusBytes 0 0 ++ thresholdAnswer (d .thresholds) call
+accepted d (OnTransfer call) = statusBytes 0 0 ++ transferAnswer (d .transfer) call
+accepted d (OnSecurity call) = statusBytes 0 0 ++ securityAnswer (d .security) call
+accepted d OnNothing = statusBytes 0 0
+
+-- the record after an accepted call
+abbrev pub change : Device → Call → Device
+change d (OnMask revision) = d
+change d (OnThresholds call) = d with-thresholds (thresholdChange (d .thresholds) call)
+change d (OnTransfer call) = d with-transfer (transferChange (d .transfer) call)
+change d (OnSecurity call) = d with-security (securityChange (d .security) call)
+change d OnNothing = d
+
+-- the area after an accepted call
+abbrev pub changeArea : Call → (area : List ℕ) → List ℕ
+changeArea (OnMask revision) area = area
+changeArea (OnThresholds call) area = area
+changeArea (OnTransfer call) area = transferArea call area
+changeArea (OnSecurity call) area = area
+changeArea OnNothing area = area
+
+-- a module: its device record and its staging area
+pub record Module : Type 0 where
+  pub device : Device
+  pub area : List ℕ
+
+-- what comes out of an event: the reply, the new record and area, and the answer buffer
+pub record Result : Type 0 where
+  pub reply : Reply
+  pub device : Device
+  pub area : List ℕ
+  pub answer : List ℕ
+
+-- "Order: R1, R2, R3, status 1, request length, then each function's checks as listed."
+abbrev pub callChecks : Device → (area : List ℕ) (revision index : ℕ) (request answer : List ℕ) → List Check
+callChecks d area revision index request answer =
+    R1Check answer
+    ∷ eventChecks d area
+    ++ (servedCheck revision index ∷ lengthCheck index request ∷ checks d (callOf (rowOf index .function) revision request))
+
+-- what a verdict on a call comes to
+abbrev pub outcome : Verdict → Device → (area : List ℕ) → Call → (functionLength : ℕ) (answer : List ℕ) → Result
+outcome v d area call n answer =
+    record {
+      reply = record { verdict = v; length = answerLength v n };
+      device = deviceAfter v (change d call) d;
+      area = areaAfter v (changeArea call area) area;
+      answer = answerAfter (answerBytes v n (accepted d call)) answer;
+    }
+
+-- A call: any record, any area, any revision and function index, any request, any answer buffer.
+unfoldable pub callResult : Device → (area : List ℕ) (revision index : ℕ) (request answer : List ℕ) → Result
+callResult d area revision index request answer =
+    outcome (verdict (callChecks d area revision index request answer)) d area (callOf (rowOf index .function) revision request) (rowOf index .answer) answer
+
+-- a tick or a power cycle, which turns the record into another and writes no byte
+abbrev pub happened : Verdict → (changed was : Device) (area : List ℕ) → Result
+happened v changed was area =
+    record { reply = record { verdict = v; length = 0 }; device = deviceAfter v changed was; area = area; answer = [] }
+
+-- "Tick."
+unfoldable pub tickResult : Device → (area : List ℕ) → Result
+tickResult d area =
+    happened (verdict (eventChecks d area)) (d with-transfer (tickChange (d .transfer) area)) d area
+
+-- "Power cycle. .. Contexts, thresholds, passphrase and area stay."
+unfoldable pub powerResult : Device → (area : List ℕ) → Result
+powerResult d area =
+    happened (verdict (eventChecks d area)) (d with-transfer (transferPower (d .transfer)) with-security (securityPower (d .security))) d area
+
+-- An event: a host's call, lent that host's answer buffer; a tick; a power cycle. Which host calls plays no part in the answer.
+pub data Event : Type 0 where
+  call : (host revision index : ℕ) (request answer : List ℕ) → Event
+  tick : Event
+  power : Event
+
+-- The whole module.
+abbrev pub step : Device → (area : List ℕ) → Event → Result
+step d area (call host revision index request answer) = callResult d area revision index request answer
+step d area tick = tickResult d area
+step d area power = powerResult d area
+
+-- the module after an event
+abbrev pub after : Result → Module
+after result = record { device = result .device; area = result .area }

@@ -1,0 +1,31 @@
+-- Document 01, "Numbers of this product".
+-- Assumes nothing.
+use Prim.Native.Nat.{ℕ}
+
+-- "Staging area 16,384 bytes."
+abbrev pub areaSize : ℕ
+areaSize = 16384
+
+-- "Longest piece 512."
+abbrev pub longestPiece : ℕ
+longestPiece = 512
+
+-- "Answer buffer at least 64."
+abbrev pub answerRoom : ℕ
+answerRoom = 64
+
+-- "Verification 8 ticks;"
+abbrev pub verification : ℕ
+verification = 8
+
+-- "a tick stands for 1,000 microseconds."
+abbrev pub microseconds : ℕ
+microseconds = 1000
+
+-- "Wrong passphrases before the limit: 10."
+abbrev pub limit : ℕ
+limit = 10
+
+-- "Context numbers 1 to 4,294,967,295."
+abbrev pub lastContext : ℕ
+lastContext = 4294967295

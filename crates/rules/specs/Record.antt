@@ -1,0 +1,67 @@
+-- Document 01, "The device record": fresh, live, possible. The record itself is declared in src/lib.rt.
+-- Assumes nothing.
+use Prim.Native.Nat.{ℕ}
+use mathlib.Core.Bool.{Bool, true, false, not, _&&_, _||_}
+use Rattle.rules.specs.Tests.{_≤?_, _<?_, _=?_, _implies_}
+use Rattle.rules.specs.Bytes.{zeros, zeros?}
+use Rattle.rules.specs.Numbers.{areaSize, verification, limit}
+use Rattle.rules.specs.declared.Phase.{Phase}
+use Rattle.rules.specs.declared.Phase.the-variants.{Idle, Receiving, Verifying, Staged, Failed}
+use Rattle.rules.specs.declared.Transfer.{Transfer}
+use Rattle.rules.specs.declared.Thresholds.{Thresholds}
+use Rattle.rules.specs.declared.Security.{Security}
+use Rattle.rules.specs.declared.Device.{Device}
+
+-- "Phase (Idle, Receiving, Verifying, Staged, Failed)", in that order
+abbrev pub phaseNumber : Phase → ℕ
+phaseNumber Idle = 0
+phaseNumber Receiving = 1
+phaseNumber Verifying = 2
+phaseNumber Staged = 3
+phaseNumber Failed = 4
+
+infix 40 _is_
+abbrev pub _is_ : Phase → Phase → Bool
+p is q = phaseNumber p =? phaseNumber q
+
+-- "Fresh: Idle, running version 1, everything else zero or off."
+abbrev pub fresh : Device
+fresh =
+    record {
+      transfer = record { phase = Idle; contexts = 0; received = 0; ticks = 0; running = 1; staged = 0 };
+      thresholds = record { enable = 0; spare = 0; media = 0; controller = 0 };
+      security = record { enabled = false; locked = false; frozen = false; attempts = 0; passphrase = zeros 32 };
+    }
+
+-- "The current context is the last one given out,"
+abbrev pub current : Transfer → ℕ
+current t = t .contexts
+
+-- "and it is live in every phase but Idle."
+abbrev pub live : Transfer → ℕ → Bool
+live t context = not (t .phase is Idle) && context =? current t
+
+-- "A record is possible if: contexts is at least 1 outside Idle; received is at most 16,384, and 0 in Idle; ticks left is 1 to 8 in Verifying and 0
+-- elsewhere; staged version is 0 outside Staged;"
+unfoldable pub possibleTransfer : Transfer → Bool
+possibleTransfer t =
+    (not (t .phase is Idle) implies 1 ≤? t .contexts)
+    && (t .received ≤? areaSize)
+    && (t .phase is Idle implies t .received =? 0)
+    && (t .phase is Verifying implies 1 ≤? t .ticks && t .ticks ≤? verification)
+    && (not (t .phase is Verifying) implies t .ticks =? 0)
+    && (not (t .phase is Staged) implies t .staged =? 0)
+
+-- "locked only if enabled; passphrase all zero if not enabled; attempts at most 10;"
+unfoldable pub possibleSecurity : Security → Bool
+possibleSecurity s =
+    (s .locked implies s .enabled)
+    && (not (s .enabled) implies zeros? (s .passphrase))
+    && (s .attempts ≤? limit)
+
+-- "only enable bits 0 to 2 set; spare threshold at most 100."
+unfoldable pub possibleThresholds : Thresholds → Bool
+possibleThresholds h = (h .enable <? 8) && (h .spare ≤? 100)
+
+unfoldable pub possible : Device → Bool
+possible d = possibleTransfer (d .transfer) && possibleSecurity (d .security) && possibleThresholds (d .thresholds)

@@ -1,0 +1,90 @@
+-- Document 01, "The replay program": the text that a log's replay prints, byte for byte. Every line ends with a line feed.
+-- Assumes nothing.
+use Prim.Native.Nat.{ℕ, zero, suc, _+_}
+use Prim.Native.String.{String}
+use mathlib.Core.Bool.{Bool}
+use mathlib.Core.List.{List, [], _∷_, _++_}
+use lib.ListN.{length}
+use Rattle.rules.specs.Tests.{if_then_else_, _=?_}
+use Rattle.rules.specs.Bytes.{zeros}
+use Rattle.rules.specs.Text.{ascii, field}
+use Rattle.rules.specs.Numbers.{areaSize, answerRoom}
+use Rattle.rules.specs.Record.{fresh}
+use Rattle.rules.specs.Refusals.{statusOf, extOf}
+use Rattle.rules.specs.Module.{Module, Result, after, callResult, tickResult, powerResult}
+use Rattle.rules.specs.Log.{entryOf, requestIn, recordsIn, recordAt, shortTail}
+use Rattle.rules.specs.declared.Phase.{Phase}
+use Rattle.rules.specs.declared.Phase.the-variants.{Idle, Receiving, Verifying, Staged, Failed}
+use Rattle.rules.specs.declared.Device.{Device}
+use Rattle.rules.specs.declared.Reply.{Reply}
+use Rattle.rules.specs.declared.Entry.{Entry}
+use Rattle.rules.specs.declared.Entry.the-variants.{Call, Tick, Power, Bad}
+
+-- "Replay starts from a fresh module and an area of zeros"
+abbrev pub replayStart : Module
+replayStart = record { device = fresh; area = zeros areaSize }
+
+-- a log record's call, lent an answer buffer of 64 zeros
+abbrev pub replayCall : Module → (revision index : ℕ) (request : List ℕ) → Result
+replayCall m revision index request = callResult (m .device) (m .area) revision index request (zeros answerRoom)
+
+-- the module after a log record
+abbrev pub played : Module → Entry → (request : List ℕ) → Module
+played m (Call host revision index size) request = after (replayCall m revision index request)
+played m Tick request = after (tickResult (m .device) (m .area))
+played m Power request = after (powerResult (m .device) (m .area))
+played m Bad request = m
+
+-- a call's line: status, extended number, and the answer's length; "function 0 prints `call - - 4`"
+abbrev pub callLine : (number index : ℕ) → Reply → List ℕ
+callLine number index reply =
+    if index =? 0 then field number " call - - " ++ field (reply .length) "\n"
+    else (field number " call " ++ field (statusOf (reply .verdict)) " " ++ field (extOf (reply .verdict)) " " ++ field (reply .length) "\n")
+
+-- the line of a log record. "A power cycle prints `power`, a bad record `bad`"
+abbrev pub entryLine : (number : ℕ) → Module → Entry → (request : List ℕ) → List ℕ
+entryLine number m (Call host revision index size) request = callLine number index (replayCall m revision index request .reply)
+entryLine number m Tick request = field number " tick\n"
+entryLine number m Power request = field number " power\n"
+entryLine number m Bad request = field number " bad\n"
+
+abbrev pub recordPlayed : Module → (bytes : List ℕ) → Module
+recordPlayed m bytes = played m (entryOf bytes) (requestIn bytes)
+
+abbrev pub recordLine : (number : ℕ) → Module → (bytes : List ℕ) → List ℕ
+recordLine number m bytes = entryLine number m (entryOf bytes) (requestIn bytes)
+
+-- the module after the first j records of a log
+unfoldable pub moduleAfter : Module → (log : List ℕ) (j : ℕ) → Module
+moduleAfter m log zero = m
+moduleAfter m log (suc j) = recordPlayed (moduleAfter m log j) (recordAt log j)
+
+-- the lines of the first j records of a log, the first of which has the number given
+unfoldable pub recordLines : (number : ℕ) → Module → (log : List ℕ) (j : ℕ) → List ℕ
+recordLines number m log zero = []
+recordLines number m log (suc j) = recordLines number m log j ++ recordLine (number + j) (moduleAfter m log j) (recordAt log j)
+
+abbrev pub heading : List ℕ
+heading = ascii "record kind status ext length\n"
+
+abbrev pub tailLine : (number : ℕ) → Bool → List ℕ
+tailLine number short = if short then field number " short\n" else []
+
+-- "The last line is phase in lower case and contexts."
+abbrev pub phaseName : Phase → String
+phaseName Idle = "idle"
+phaseName Receiving = "receiving"
+phaseName Verifying = "verifying"
+phaseName Staged = "staged"
+phaseName Failed = "failed"
+
+abbrev pub lastLine : Device → List ℕ
+lastLine d = ascii "end " ++ ascii (phaseName (d .transfer .phase)) ++ ascii " " ++ field (d .transfer .contexts) "\n"
+
+-- The text of a whole log.
+unfoldable pub replayText : (log : List ℕ) → List ℕ
+replayText log =
+    heading
+    ++ recordLines 0 replayStart log (recordsIn log)
+    ++ tailLine (recordsIn log) (shortTail log)
+    ++ lastLine (moduleAfter replayStart log (recordsIn log) .device)

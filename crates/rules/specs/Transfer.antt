@@ -1,0 +1,165 @@
+-- Document 01, "A firmware transfer": Get FW Info, Start, Send, Finish, Query, the tick and the power cycle.
+-- Assumes nothing.
+use Prim.Native.Nat.{ℕ, _+_, _-_, _*_}
+use mathlib.Core.Bool.{Bool, not, _&&_, _||_}
+use mathlib.Core.List.{List, [], _∷_, _++_}
+use lib.ListN.{length, take, drop}
+use Rattle.rules.specs.Tests.{if_then_else_, _<?_, _=?_}
+use Rattle.rules.specs.Bytes.{le, numberAt, zeros, splice}
+use Rattle.rules.specs.Numbers.{areaSize, longestPiece, verification, microseconds, lastContext}
+use Rattle.rules.specs.With.{_with-phase_, _with-contexts_, _with-received_, _with-ticks_, _with-running_, _with-staged_}
+use Rattle.rules.specs.Record.{_is_, current, live}
+use Rattle.rules.specs.Refusals.{Check, _gives_}
+use Rattle.rules.specs.Image.{imageOf}
+use Rattle.rules.specs.declared.Refusal.the-variants.{Status}
+use Rattle.rules.specs.declared.Image.{Image}
+use Rattle.rules.specs.declared.Image.the-variants.{Good, Bad}
+use Rattle.rules.specs.declared.Phase.the-variants.{Idle, Receiving, Verifying, Staged, Failed}
+use Rattle.rules.specs.declared.Transfer.{Transfer}
+
+pub data TransferCall : Type 0 where
+  GetFwInfo : TransferCall
+  Start : TransferCall
+  Send : (context offset size : ℕ) (piece : List ℕ) → TransferCall
+  Finish : (flag context : ℕ) → TransferCall
+  Query : (context : ℕ) → TransferCall
+
+-- "Get FW Info after the status: 16,384 (4 bytes); 512 (4); 1,000 (4); 8,000 (4); capability 0 (1); zeros (3); interface version 1 (4); running version
+-- (8); staged version (8)."
+abbrev pub fwInfo : Transfer → List ℕ
+fwInfo t =
+    le 4 areaSize
+    ++ le 4 longestPiece
+    ++ le 4 microseconds
+    ++ le 4 (verification * microseconds)
+    ++ le 1 0
+    ++ zeros 3
+    ++ le 4 1
+    ++ le 8 (t .running)
+    ++ le 8 (t .staged)
+
+-- "Start. Receiving or Verifying: 7/1. Staged: 7/2. Every context given out: 8."
+abbrev pub startChecks : Transfer → List Check
+startChecks t =
+    (t .phase is Receiving || t .phase is Verifying gives Status 7 1)
+    ∷ (t .phase is Staged gives Status 7 2)
+    ∷ (t .contexts =? lastContext gives Status 8 0)
+    ∷ []
+
+-- "Else the next number is given, received is 0, phase Receiving;" "Numbers .. are never given again."
+abbrev pub startChange : Transfer → Transfer
+startChange t = t with-contexts (t .contexts + 1) with-received 0 with-phase Receiving
+
+-- "the answer carries the context."
+abbrev pub startAnswer : Transfer → List ℕ
+startAnswer t = le 4 (t .contexts + 1)
+
+-- "Send: context (4), offset (4), length (4), piece." "The piece starts at byte 12 of the request;"
+abbrev pub sendOf : (request : List ℕ) → TransferCall
+sendOf request = Send (numberAt 4 0 request) (numberAt 4 4 request) (numberAt 4 8 request) (drop 12 request)
+
+-- "3 if .. the length differs from what follows, is 0 or over 512, or offset plus length (as exact numbers) is over 16,384. Then 7/1 unless Receiving with
+-- this context. Then 3 unless offset equals received."
+abbrev pub sendChecks : Transfer → (context offset size : ℕ) (piece : List ℕ) → List Check
+sendChecks t context offset size piece =
+    (not (size =? length piece) || size =? 0 || longestPiece <? size || areaSize <? offset + size gives Status 3 0)
+    ∷ (not (t .phase is Receiving && context =? current t) gives Status 7 1)
+    ∷ (not (offset =? t .received) gives Status 3 0)
+    ∷ []
+
+-- The piece counts as received (docs/DECISIONS.md, A1).
+abbrev pub sendChange : Transfer → (size : ℕ) → Transfer
+sendChange t size = t with-received (t .received + size)
+
+-- "it goes into the area at the offset, and every other area byte stays."
+abbrev pub sendArea : (offset : ℕ) (piece area : List ℕ) → List ℕ
+sendArea offset piece area = splice offset piece area
+
+-- "Finish: flag (1), reserved (3), context (4)."
+abbrev pub finishOf : (request : List ℕ) → TransferCall
+finishOf request = Finish (numberAt 1 0 request) (numberAt 4 4 request)
+
+-- "Flag over 1: 3. Context not live: 7/1. Phase not Receiving: 7/2."
+abbrev pub finishChecks : Transfer → (flag context : ℕ) → List Check
+finishChecks t flag context =
+    (1 <? flag gives Status 3 0)
+    ∷ (not (live t context) gives Status 7 1)
+    ∷ (not (t .phase is Receiving) gives Status 7 2)
+    ∷ []
+
+-- "Flag 0: Verifying, 8 ticks left. Flag 1 aborts: Idle, received 0, status 0."
+abbrev pub finishChange : Transfer → (flag : ℕ) → Transfer
+finishChange t flag =
+    if flag =? 0 then t with-phase Verifying with-ticks verification else (t with-phase Idle with-received 0)
+
+-- "Query: context."
+abbrev pub queryOf : (request : List ℕ) → TransferCall
+queryOf request = Query (numberAt 4 0 request)
+
+-- "Not live: 7/1. Receiving: 7/4. Verifying: 7/2. Failed: 7/3. Staged: .. 6 if that is 0. Query changes nothing."
+abbrev pub queryChecks : Transfer → (context : ℕ) → List Check
+queryChecks t context =
+    (not (live t context) gives Status 7 1)
+    ∷ (t .phase is Receiving gives Status 7 4)
+    ∷ (t .phase is Verifying gives Status 7 2)
+    ∷ (t .phase is Failed gives Status 7 3)
+    ∷ (t .staged =? 0 gives Status 6 0)
+    ∷ []
+
+-- "Staged: staged version (8)"
+abbrev pub queryAnswer : Transfer → List ℕ
+queryAnswer t = le 8 (t .staged)
+
+-- the checks, the answer after the status, the change of the record and the change of the area, call by call
+abbrev pub transferChecks : Transfer → TransferCall → List Check
+transferChecks t GetFwInfo = []
+transferChecks t Start = startChecks t
+transferChecks t (Send context offset size piece) = sendChecks t context offset size piece
+transferChecks t (Finish flag context) = finishChecks t flag context
+transferChecks t (Query context) = queryChecks t context
+
+abbrev pub transferAnswer : Transfer → TransferCall → List ℕ
+transferAnswer t GetFwInfo = fwInfo t
+transferAnswer t Start = startAnswer t
+transferAnswer t (Send context offset size piece) = []
+transferAnswer t (Finish flag context) = []
+transferAnswer t (Query context) = queryAnswer t
+
+abbrev pub transferChange : Transfer → TransferCall → Transfer
+transferChange t GetFwInfo = t
+transferChange t Start = startChange t
+transferChange t (Send context offset size piece) = sendChange t size
+transferChange t (Finish flag context) = finishChange t flag
+transferChange t (Query context) = t
+
+-- "Start .. The area's bytes stay."
+abbrev pub transferArea : TransferCall → (area : List ℕ) → List ℕ
+transferArea GetFwInfo area = area
+transferArea Start area = area
+transferArea (Send context offset size piece) area = sendArea offset piece area
+transferArea (Finish flag context) area = area
+transferArea (Query context) area = area
+
+-- "the received bytes"
+abbrev pub receivedBytes : Transfer → (area : List ℕ) → List ℕ
+receivedBytes t area = take (t .received) area
+
+-- "With 1: ticks left 0, and Staged with the image's version if the received bytes are a good image, else Failed."
+abbrev pub verified : Transfer → Image → Transfer
+verified t (Good version) = t with-ticks 0 with-phase Staged with-staged version
+verified t Bad = t with-ticks 0 with-phase Failed
+
+-- "Tick. .. In Verifying with more than 1 tick left: one less." "Other phases: no change."
+abbrev pub tickChange : Transfer → (area : List ℕ) → Transfer
+tickChange t area =
+    if not (t .phase is Verifying) then t
+    else if 1 <? t .ticks then t with-ticks (t .ticks - 1)
+    else verified t (imageOf (receivedBytes t area))
+
+-- "Power cycle. From Staged the staged version becomes the running one."
+abbrev pub runningAfter : Transfer → ℕ
+runningAfter t = if t .phase is Staged then t .staged else t .running
+
+-- "Then in every case: Idle, received 0, ticks 0, staged version 0"; "Contexts .. stay."
+abbrev pub transferPower : Transfer → Transfer
+transferPower t = t with-running (runningAfter t) with-phase Idle with-received 0 with-ticks 0 with-staged 0

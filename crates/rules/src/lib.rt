@@ -1,0 +1,107 @@
+// The declared types that document 01 speaks of. They carry no code: the rules over them stand in specs/, the theorems in proofs/.
+
+// The device record's phase.
+pub enum Phase {
+    Idle,
+    Receiving,
+    Verifying,
+    Staged,
+    Failed,
+}
+
+// The device record's firmware part: contexts given out so far, bytes received, ticks left, running and staged version.
+pub struct Transfer {
+    pub phase: Phase,
+    pub contexts: u32,
+    pub received: u32,
+    pub ticks: u8,
+    pub running: u64,
+    pub staged: u64,
+}
+
+// The three thresholds with their enable bits.
+pub struct Thresholds {
+    pub enable: u16,
+    pub spare: u8,
+    pub media: u16,
+    pub controller: u16,
+}
+
+// Security enabled, locked, frozen, wrong attempts, passphrase.
+pub struct Security {
+    pub enabled: bool,
+    pub locked: bool,
+    pub frozen: bool,
+    pub attempts: u8,
+    pub passphrase: [u8; 32],
+}
+
+// The device record.
+pub struct Device {
+    pub transfer: Transfer,
+    pub thresholds: Thresholds,
+    pub security: Security,
+}
+
+// What a refusal gives: an R number, which writes nothing, or a status with its extended number.
+pub enum Refusal {
+    R { number: u8 },
+    Status { status: u16, ext: u16 },
+}
+
+pub enum Verdict {
+    Accepted,
+    Refused(Refusal),
+}
+
+// What an event is answered: the verdict, and how many bytes of the answer buffer were written.
+pub struct Reply {
+    pub verdict: Verdict,
+    pub length: usize,
+}
+
+// The functions of the table, by name. `Unserved` stands for every index that the table lacks.
+pub enum Function {
+    Mask,
+    GetThreshold,
+    GetFwInfo,
+    Start,
+    Send,
+    Finish,
+    Query,
+    SetThreshold,
+    GetSecurityState,
+    SetPassphrase,
+    Disable,
+    Unlock,
+    Freeze,
+    Unserved,
+}
+
+// A row of the table: the function, the first revision that serves it, its request bytes (`more`: and any number after them), its answer bytes.
+pub struct Row {
+    pub function: Function,
+    pub since: u8,
+    pub request: usize,
+    pub more: bool,
+    pub answer: usize,
+}
+
+// What the received bytes are.
+pub enum Image {
+    Good { version: u64 },
+    Bad,
+}
+
+// What a 544-byte record of a log says.
+pub enum Entry {
+    Call {
+        host: u8,
+        revision: u16,
+        function: u16,
+        length: u16,
+    },
+    Tick,
+    Power,
+    Bad,
+}

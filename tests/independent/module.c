@@ -1,0 +1,397 @@
+/* The module's rules, in the order of document 01. */
+#include "module.h"
+
+/* An answer's first four bytes as one number: status, then extended number. */
+enum {
+    DONE = 0,
+    NOT_SERVED = 1,
+    INVALID = 3,
+    UNKNOWN = 6,
+    CONTEXTS_USED_UP = 8,
+    WRONG_STATE = 10,
+    WRONG_PASSPHRASE = 11
+};
+#define SPECIFIC(extended) (7u | (uint32_t)(extended) << 16)
+
+enum {
+    GET_THRESHOLD = 2,
+    GET_FW_INFO = 12,
+    START = 13,
+    SEND = 14,
+    FINISH = 15,
+    QUERY = 16,
+    SET_THRESHOLD = 17,
+    GET_SECURITY = 19,
+    SET_PASSPHRASE = 20,
+    DISABLE = 21,
+    UNLOCK = 22,
+    FREEZE = 23
+};
+
+enum { SEND_HEAD = 12, IMAGE_RECORD = 128, IMAGE_RECORDS_MOST = 128, SUM_AT = 124 };
+
+/* ---- The device record ---- */
+
+void device_fresh(struct device *device)
+{
+    memset(device, 0, sizeof *device);
+    device->phase = IDLE;
+    device->running = 1;
+}
+
+bool device_possible(const struct device *device)
+{
+    if (device->phase > FAILED || device->enabled > 1 || device->locked > 1 || device->frozen > 1)
+        return false;
+    if (device->phase != IDLE && device->contexts < 1)
+        return false;
+    if (device->received > AREA_BYTES || (device->phase == IDLE && device->received != 0))
+        return false;
+    if (device->phase == VERIFYING && (device->ticks < 1 || device->ticks > VERIFY_TICKS))
+        return false;
+    if (device->phase != VERIFYING && device->ticks != 0)
+        return false;
+    if (device->phase != STAGED && device->staged != 0)
+        return false;
+    if (device->locked && !device->enabled)
+        return false;
+    if (!device->enabled && !all_zero(device->passphrase, PASSPHRASE_BYTES))
+        return false;
+    return device->attempts <= WRONG_MOST && device->enable <= 7 && device->spare <= 100;
+}
+
+/* The current context is live in every phase but Idle. */
+static bool live(const struct device *device, uint32_t context)
+{
+    return device->phase != IDLE && context == device->contexts;
+}
+
+/* ---- Which function index at which revision ---- */
+
+/* Function 0's mask: bit k for function k. */
+static uint32_t served_mask(uint64_t revision)
+{
+    switch (revision) {
+    case 1: return 0x00000005;
+    case 2: return 0x00FBF005;
+    default: return 0;
+    }
+}
+
+static bool served(uint64_t revision, uint64_t function)
+{
+    return function < 32 && (served_mask(revision) >> function & 1) != 0;
+}
+
+/* Request bytes of a served function; for Send the least. */
+static size_t request_bytes(uint64_t function)
+{
+    switch (function) {
+    case SEND: return SEND_HEAD;
+    case FINISH: return 8;
+    case QUERY: return 4;
+    case SET_THRESHOLD: return 7;
+    case SET_PASSPHRASE: return 2 * PASSPHRASE_BYTES;
+    case DISABLE: return PASSPHRASE_BYTES;
+    case UNLOCK: return PASSPHRASE_BYTES;
+    default: return 0;
+    }
+}
+
+static int32_t answer_bytes(uint64_t function)
+{
+    switch (function) {
+    case GET_THRESHOLD: return 12;
+    case GET_FW_INFO: return 44;
+    case START: return 8;
+    case QUERY: return 12;
+    case GET_SECURITY: return 12;
+    default: return 4;
+    }
+}
+
+/* ---- Thresholds ---- */
+
+static uint32_t get_threshold(const struct device *device, uint8_t *answer)
+{
+    put16(answer + 4, device->enable);
+    answer[6] = device->spare;
+    put16(answer + 7, device->media);
+    put16(answer + 9, device->controller);
+    return DONE;
+}
+
+static uint32_t set_threshold(struct device *device, const uint8_t *request)
+{
+    if (request[2] > 100)
+        return INVALID;
+    device->enable = get16(request) & 7;
+    device->spare = request[2];
+    device->media = get16(request + 3);
+    device->controller = get16(request + 5);
+    return DONE;
+}
+
+/* ---- A firmware transfer ---- */
+
+static uint32_t get_fw_info(const struct device *device, uint8_t *answer)
+{
+    put32(answer + 4, AREA_BYTES);
+    put32(answer + 8, PIECE_MOST);
+    put32(answer + 12, TICK_MICROSECONDS);
+    put32(answer + 16, VERIFY_TICKS * TICK_MICROSECONDS);
+    put32(answer + 20, 0); /* capability 0, three reserved bytes */
+    put32(answer + 24, 1); /* interface version */
+    put64(answer + 28, device->running);
+    put64(answer + 36, device->staged);
+    return DONE;
+}
+
+static uint32_t start(struct device *device, uint8_t *answer)
+{
+    if (device->phase == RECEIVING || device->phase == VERIFYING)
+        return SPECIFIC(1);
+    if (device->phase == STAGED)
+        return SPECIFIC(2);
+    if (device->contexts == 4294967295u)
+        return CONTEXTS_USED_UP;
+    device->contexts++;
+    device->received = 0;
+    device->phase = RECEIVING;
+    put32(answer + 4, device->contexts);
+    return DONE;
+}
+
+/* The request holds at least the 12 bytes before the piece. */
+static uint32_t send(struct device *device, uint8_t *area, const uint8_t *request,
+                     size_t request_len)
+{
+    uint32_t context = get32(request);
+    uint64_t offset = get32(request + 4);
+    uint64_t length = get32(request + 8);
+
+    if (length != request_len - SEND_HEAD || length == 0 || length > PIECE_MOST
+        || offset + length > AREA_BYTES)
+        return INVALID;
+    if (device->phase != RECEIVING || !live(device, context))
+        return SPECIFIC(1);
+    if (offset != device->received)
+        return INVALID;
+    memcpy(area + offset, request + SEND_HEAD, length);
+    device->received += (uint32_t)length;
+    return DONE;
+}
+
+static uint32_t finish(struct device *device, const uint8_t *request)
+{
+    uint8_t flag = request[0];
+
+    if (flag > 1)
+        return INVALID;
+    if (!live(device, get32(request + 4)))
+        return SPECIFIC(1);
+    if (device->phase != RECEIVING)
+        return SPECIFIC(2);
+    if (flag == 0) {
+        device->phase = VERIFYING;
+        device->ticks = VERIFY_TICKS;
+    } else {
+        device->phase = IDLE;
+        device->received = 0;
+    }
+    return DONE;
+}
+
+static uint32_t query(const struct device *device, const uint8_t *request, uint8_t *answer)
+{
+    if (!live(device, get32(request)))
+        return SPECIFIC(1);
+    switch (device->phase) {
+    case RECEIVING: return SPECIFIC(4);
+    case VERIFYING: return SPECIFIC(2);
+    case FAILED: return SPECIFIC(3);
+    }
+    if (device->staged == 0)
+        return UNKNOWN;
+    put64(answer + 4, device->staged);
+    return DONE;
+}
+
+/* The sum of the 31 words before an image record's last. */
+static uint32_t word_sum(const uint8_t *record)
+{
+    uint32_t sum = 0;
+
+    for (size_t at = 0; at < SUM_AT; at += 4)
+        sum += get32(record + at);
+    return sum;
+}
+
+/* The version of the image in the first `received` bytes; 0 if it is not good. */
+static uint64_t image_version(const uint8_t *area, uint32_t received)
+{
+    uint32_t count = received / IMAGE_RECORD;
+
+    if (received % IMAGE_RECORD != 0 || count < 1 || count > IMAGE_RECORDS_MOST)
+        return 0;
+    uint64_t version = get64(area + 4);
+    for (uint32_t i = 0; i < count; i++) {
+        const uint8_t *record = area + i * IMAGE_RECORD;
+        if (get16(record) != i || get16(record + 2) != count || get64(record + 4) != version
+            || get32(record + SUM_AT) != word_sum(record))
+            return 0;
+    }
+    return version;
+}
+
+int32_t device_tick(struct device *device, const uint8_t *area, size_t area_len)
+{
+    if (area_len != AREA_BYTES)
+        return R2;
+    if (!device_possible(device))
+        return R3;
+    if (device->phase != VERIFYING)
+        return 0;
+    device->ticks--;
+    if (device->ticks == 0) {
+        device->staged = image_version(area, device->received);
+        device->phase = device->staged != 0 ? STAGED : FAILED;
+    }
+    return 0;
+}
+
+int32_t device_power(struct device *device, const uint8_t *area, size_t area_len)
+{
+    (void)area;
+    if (area_len != AREA_BYTES)
+        return R2;
+    if (!device_possible(device))
+        return R3;
+    if (device->phase == STAGED)
+        device->running = device->staged;
+    device->phase = IDLE;
+    device->received = 0;
+    device->ticks = 0;
+    device->staged = 0;
+    device->frozen = 0;
+    device->attempts = 0;
+    device->locked = device->enabled;
+    return 0;
+}
+
+/* ---- Locking and passphrases ---- */
+
+static uint32_t get_security(const struct device *device, uint8_t *answer)
+{
+    answer[8] = (uint8_t)(device->enabled << 1 | device->locked << 2 | device->frozen << 3
+                          | (device->attempts == WRONG_MOST) << 4);
+    return DONE;
+}
+
+/* Frozen, or at the limit: 20 to 23 are refused before anything else. */
+static bool shut(const struct device *device)
+{
+    return device->frozen || device->attempts == WRONG_MOST;
+}
+
+static bool matches(const struct device *device, const uint8_t *passphrase)
+{
+    return memcmp(device->passphrase, passphrase, PASSPHRASE_BYTES) == 0;
+}
+
+static uint32_t wrong_passphrase(struct device *device)
+{
+    device->attempts++;
+    return WRONG_PASSPHRASE;
+}
+
+static uint32_t set_passphrase(struct device *device, const uint8_t *request)
+{
+    if (shut(device) || device->locked)
+        return WRONG_STATE;
+    if (device->enabled && !matches(device, request))
+        return wrong_passphrase(device);
+    memcpy(device->passphrase, request + PASSPHRASE_BYTES, PASSPHRASE_BYTES);
+    device->enabled = 1;
+    device->attempts = 0;
+    return DONE;
+}
+
+static uint32_t disable(struct device *device, const uint8_t *request)
+{
+    if (shut(device) || !device->enabled || device->locked)
+        return WRONG_STATE;
+    if (!matches(device, request))
+        return wrong_passphrase(device);
+    device->enabled = 0;
+    memset(device->passphrase, 0, PASSPHRASE_BYTES);
+    device->attempts = 0;
+    return DONE;
+}
+
+static uint32_t unlock(struct device *device, const uint8_t *request)
+{
+    if (shut(device) || !device->enabled || !device->locked)
+        return WRONG_STATE;
+    if (!matches(device, request))
+        return wrong_passphrase(device);
+    device->locked = 0;
+    device->attempts = 0;
+    return DONE;
+}
+
+static uint32_t freeze(struct device *device)
+{
+    if (shut(device))
+        return WRONG_STATE;
+    device->frozen = 1;
+    return DONE;
+}
+
+/* ---- A call ---- */
+
+/* A served function with a request of the right length; the answer's bytes are zero. */
+static uint32_t serve(struct device *device, uint8_t *area, uint64_t function,
+                      const uint8_t *request, size_t request_len, uint8_t *answer)
+{
+    switch (function) {
+    case GET_THRESHOLD: return get_threshold(device, answer);
+    case GET_FW_INFO: return get_fw_info(device, answer);
+    case START: return start(device, answer);
+    case SEND: return send(device, area, request, request_len);
+    case FINISH: return finish(device, request);
+    case QUERY: return query(device, request, answer);
+    case SET_THRESHOLD: return set_threshold(device, request);
+    case GET_SECURITY: return get_security(device, answer);
+    case SET_PASSPHRASE: return set_passphrase(device, request);
+    case DISABLE: return disable(device, request);
+    case UNLOCK: return unlock(device, request);
+    default: return freeze(device);
+    }
+}
+
+int32_t device_call(struct device *device, uint8_t *area, size_t area_len, uint64_t revision,
+                    uint64_t function, const uint8_t *request, size_t request_len,
+                    uint8_t *answer, size_t answer_len)
+{
+    if (answer_len < ANSWER_LEAST)
+        return R1;
+    if (area_len != AREA_BYTES)
+        return R2;
+    if (!device_possible(device))
+        return R3;
+    if (function == 0) {
+        put32(answer, served_mask(revision));
+        return 4;
+    }
+    if (!served(revision, function)) {
+        put32(answer, NOT_SERVED);
+        return 4;
+    }
+    int32_t length = answer_bytes(function);
+    size_t least = request_bytes(function);
+    bool fits = function == SEND ? request_len >= least : request_len == least;
+    memset(answer, 0, (size_t)length);
+    put32(answer, fits ? serve(device, area, function, request, request_len, answer) : INVALID);
+    return length;
+}

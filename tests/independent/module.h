@@ -1,0 +1,58 @@
+/* One persistent memory module: its device record, and what a call, a tick and
+ * a power cycle do to it. "01" in a comment is the rules page, document 01. */
+#ifndef MODULE_H
+#define MODULE_H
+
+#include "bytes.h"
+
+enum phase { IDLE, RECEIVING, VERIFYING, STAGED, FAILED };
+
+/* 01, "Numbers of this product". */
+enum {
+    AREA_BYTES = 16384,
+    PIECE_MOST = 512,
+    ANSWER_LEAST = 64,
+    VERIFY_TICKS = 8,
+    TICK_MICROSECONDS = 1000,
+    WRONG_MOST = 10,
+    PASSPHRASE_BYTES = 32
+};
+
+/* The refusals that give no answer bytes. */
+enum { R1 = -1, R2 = -2, R3 = -3 };
+
+/* 01, "The device record". */
+struct device {
+    uint64_t running;    /* running version */
+    uint64_t staged;     /* staged version */
+    uint32_t contexts;   /* contexts given out so far; the last is the current one */
+    uint32_t received;   /* bytes received */
+    uint16_t enable;     /* bits 0 to 2: spare, media, controller */
+    uint16_t media;      /* media temperature threshold */
+    uint16_t controller; /* controller temperature threshold */
+    uint8_t spare;       /* spare threshold */
+    uint8_t phase;       /* an enum phase */
+    uint8_t ticks;       /* ticks left */
+    uint8_t enabled;     /* these three: 0 or 1 */
+    uint8_t locked;
+    uint8_t frozen;
+    uint8_t attempts;    /* wrong passphrases */
+    uint8_t passphrase[PASSPHRASE_BYTES];
+};
+
+void device_fresh(struct device *device);
+
+/* Any other record is refused with R3. */
+bool device_possible(const struct device *device);
+
+/* The length of the answer written, or R1, R2 or R3 with nothing written.
+ * The buffers must not overlap. */
+int32_t device_call(struct device *device, uint8_t *area, size_t area_len, uint64_t revision,
+                    uint64_t function, const uint8_t *request, size_t request_len,
+                    uint8_t *answer, size_t answer_len);
+
+/* 0, or R2 or R3 with nothing written. */
+int32_t device_tick(struct device *device, const uint8_t *area, size_t area_len);
+int32_t device_power(struct device *device, const uint8_t *area, size_t area_len);
+
+#endif

@@ -1,0 +1,110 @@
+/* The device record's 128 bytes, little-endian:
+ *
+ *    0 phase          6 enable bits (2)     24 staged version (8)    64 passphrase (32)
+ *    1 enabled        8 contexts (4)        32 spare threshold       96 zeros to 127
+ *    2 locked        12 received (4)        33 zero
+ *    3 frozen        16 running version (8) 34 media threshold (2)
+ *    4 attempts                             36 controller threshold (2)
+ *    5 ticks left                           38 zeros to 63
+ */
+#include "record.h"
+
+void record_encode(const struct device *device, uint8_t record[RECORD_BYTES])
+{
+    memset(record, 0, RECORD_BYTES);
+    record[0] = device->phase;
+    record[1] = device->enabled;
+    record[2] = device->locked;
+    record[3] = device->frozen;
+    record[4] = device->attempts;
+    record[5] = device->ticks;
+    put16(record + 6, device->enable);
+    put32(record + 8, device->contexts);
+    put32(record + 12, device->received);
+    put64(record + 16, device->running);
+    put64(record + 24, device->staged);
+    record[32] = device->spare;
+    put16(record + 34, device->media);
+    put16(record + 36, device->controller);
+    memcpy(record + 64, device->passphrase, PASSPHRASE_BYTES);
+}
+
+static bool is_record(const uint8_t *record, size_t record_len)
+{
+    return record_len == RECORD_BYTES && record[0] <= FAILED && record[1] <= 1 && record[2] <= 1
+        && record[3] <= 1 && record[33] == 0 && all_zero(record + 38, 26)
+        && all_zero(record + 96, 32);
+}
+
+bool record_decode(const uint8_t *record, size_t record_len, struct device *device)
+{
+    if (!is_record(record, record_len)) {
+        memset(device, 255, sizeof *device); /* there is no phase 255 */
+        return false;
+    }
+    device->phase = record[0];
+    device->enabled = record[1];
+    device->locked = record[2];
+    device->frozen = record[3];
+    device->attempts = record[4];
+    device->ticks = record[5];
+    device->enable = get16(record + 6);
+    device->contexts = get32(record + 8);
+    device->received = get32(record + 12);
+    device->running = get64(record + 16);
+    device->staged = get64(record + 24);
+    device->spare = record[32];
+    device->media = get16(record + 34);
+    device->controller = get16(record + 36);
+    memcpy(device->passphrase, record + 64, PASSPHRASE_BYTES);
+    return true;
+}
+
+int32_t independent_fresh(uint8_t *record, size_t record_len)
+{
+    struct device device;
+
+    if (record_len != RECORD_BYTES)
+        return R3;
+    device_fresh(&device);
+    record_encode(&device, record);
+    return 0;
+}
+
+int32_t independent_call(uint8_t *record, size_t record_len, uint8_t *area, size_t area_len,
+                         uint64_t revision, uint64_t function, const uint8_t *request,
+                         size_t request_len, uint8_t *answer, size_t answer_len)
+{
+    struct device device;
+
+    record_decode(record, record_len, &device);
+    int32_t result = device_call(&device, area, area_len, revision, function, request,
+                                 request_len, answer, answer_len);
+    if (result >= 0)
+        record_encode(&device, record);
+    return result;
+}
+
+int32_t independent_tick(uint8_t *record, size_t record_len, const uint8_t *area,
+                         size_t area_len)
+{
+    struct device device;
+
+    record_decode(record, record_len, &device);
+    int32_t result = device_tick(&device, area, area_len);
+    if (result >= 0)
+        record_encode(&device, record);
+    return result;
+}
+
+int32_t independent_power(uint8_t *record, size_t record_len, const uint8_t *area,
+                          size_t area_len)
+{
+    struct device device;
+
+    record_decode(record, record_len, &device);
+    int32_t result = device_power(&device, area, area_len);
+    if (result >= 0)
+        record_encode(&device, record);
+    return result;
+}
