@@ -6,14 +6,17 @@ use mathlib.Core.List.{List, [], _∷_, _++_}
 use lib.ListN.{length, drop, replicate}
 use Rattle.rules.specs.Tests.{if_then_else_, _=?_}
 use Rattle.rules.specs.Bytes.{le, zeros, same?}
-use Rattle.rules.specs.Record.{_is_}
+use Rattle.rules.specs.Numbers.{areaSize}
+use Rattle.rules.specs.With.{_with-transfer_, _with-phase_, _with-contexts_, _with-received_}
+use Rattle.rules.specs.Record.{_is_, fresh}
 use Rattle.rules.specs.Module.{Module, Result, Event, call, tick, step, after}
 use Rattle.rules.specs.Replay.{replayStart}
 use Rattle.rules.specs.declared.Phase.the-variants.{Idle, Receiving, Staged, Failed}
 
--- A row: how the module got there, from fresh with an area of zeros; then calls, each with the answer bytes that the case expects; then what the case says
--- of record and area in the end.
+-- A row: how the module got there, which is a module and the events that then came; then calls, each with the answer bytes that the case expects; then
+-- what the case says of record and area in the end.
 pub record Case : Type 0 where
+  pub from : Module
   pub before : List Event
   pub calls : List (Event × List ℕ)
   pub ends : Module → Bool
@@ -45,7 +48,7 @@ holdsFrom m [] ends = ends m
 holdsFrom m (asked ∷ calls) ends = answers (next m (asked .0)) (asked .1) && holdsFrom (after (next m (asked .0))) calls ends
 
 abbrev pub holds : Case → Bool
-holds c = holdsFrom (run replayStart (c .before)) (c .calls) (c .ends)
+holds c = holdsFrom (run (c .from) (c .before)) (c .calls) (c .ends)
 
 -- the numbers of the rows that do not hold
 abbrev pub failing : (number : ℕ) → List Case → List ℕ
@@ -82,13 +85,13 @@ abbrev ticks : ℕ → List Event
 ticks zero = []
 ticks (suc n) = tick ∷ ticks n
 
--- so many pieces of 512 bytes of 7, from an offset on; then Start with 31 of them and a last piece, which end at 15,872 and the last one's length
-abbrev pieces : (many offset : ℕ) → List Event
-pieces zero offset = []
-pieces (suc many) offset = send 1 offset 512 (replicate 512 7) ∷ pieces many (offset + 512)
-
-abbrev received : (rest : ℕ) → List Event
-received rest = start ∷ pieces 31 0 ++ (send 1 15872 rest (replicate rest 7) ∷ [])
+-- a module that has received so many bytes, in the transfer with context 1; its area is full of 7
+abbrev receiving : ℕ → Module
+receiving n =
+    record {
+      device = fresh with-transfer (fresh .transfer with-phase Receiving with-contexts 1 with-received n);
+      area = replicate areaSize 7;
+    }
 
 -- the record whose transfer is verified: Start, one Send of 128 bytes, Finish, 8 ticks
 abbrev transferred : List ℕ → List Event
@@ -116,32 +119,31 @@ abbrev received-all : Module → Bool
 received-all m =
     m .device .transfer .received =? 16384 && same? (m .area) (replicate 16380 7 ++ (1 ∷ 2 ∷ 3 ∷ 4 ∷ []))
 
-abbrev case : List Event → List (Event × List ℕ) → (Module → Bool) → Case
-case before calls ends = record { before = before; calls = calls; ends = ends }
+abbrev case : Module → List Event → List (Event × List ℕ) → (Module → Bool) → Case
+case from before calls ends = record { from = from; before = before; calls = calls; ends = ends }
 
 abbrev pub cases : List Case
 cases =
     -- "function 0 at revisions 2, 1 and 3, as above."
-    case [] ((at-revision 2 0 [], 0x05 ∷ 0xF0 ∷ 0xFB ∷ 0x00 ∷ []) ∷ []) anything
-    ∷ case [] ((at-revision 1 0 [], 0x05 ∷ 0x00 ∷ 0x00 ∷ 0x00 ∷ []) ∷ []) anything
-    ∷ case [] ((at-revision 3 0 [], 0x00 ∷ 0x00 ∷ 0x00 ∷ 0x00 ∷ []) ∷ []) anything
+    case replayStart [] ((at-revision 2 0 [], 0x05 ∷ 0xF0 ∷ 0xFB ∷ 0x00 ∷ []) ∷ []) anything
+    ∷ case replayStart [] ((at-revision 1 0 [], 0x05 ∷ 0x00 ∷ 0x00 ∷ 0x00 ∷ []) ∷ []) anything
+    ∷ case replayStart [] ((at-revision 3 0 [], 0x00 ∷ 0x00 ∷ 0x00 ∷ 0x00 ∷ []) ∷ []) anything
     -- "function 18, revision 2: status 1, 4 bytes."
-    ∷ case [] ((ask 18 [], status 1) ∷ []) anything
-    -- "Send at 16,380, length 4, received 16,380: accepted; at 16,381: 3." The second with 16,381 received and with 16,380.
-    ∷ case (received 508) ((send 1 16380 4 (1 ∷ 2 ∷ 3 ∷ 4 ∷ []), done) ∷ []) received-all
-    ∷ case (received 509) ((send 1 16381 4 (1 ∷ 2 ∷ 3 ∷ 4 ∷ []), status 3) ∷ []) anything
-    ∷ case (received 508) ((send 1 16381 4 (1 ∷ 2 ∷ 3 ∷ 4 ∷ []), status 3) ∷ []) anything
+    ∷ case replayStart [] ((ask 18 [], status 1) ∷ []) anything
+    -- "Send at 16,380, length 4, received 16,380: accepted; at 16,381: 3." The second with 16,381 received, so that the sum alone decides.
+    ∷ case (receiving 16380) [] ((send 1 16380 4 (1 ∷ 2 ∷ 3 ∷ 4 ∷ []), done) ∷ []) received-all
+    ∷ case (receiving 16381) [] ((send 1 16381 4 (1 ∷ 2 ∷ 3 ∷ 4 ∷ []), status 3) ∷ []) anything
     -- "while Idle, offset 4,294,967,295, length 2, two piece bytes: 3, not 7/1."
-    ∷ case [] ((send 1 4294967295 2 (1 ∷ 2 ∷ []), status 3) ∷ []) anything
+    ∷ case replayStart [] ((send 1 4294967295 2 (1 ∷ 2 ∷ []), status 3) ∷ []) anything
     -- "length 512 accepted, 513: 3; length 0: 3."
-    ∷ case (start ∷ []) ((send 1 0 512 (replicate 512 7), done) ∷ []) anything
-    ∷ case (start ∷ []) ((send 1 0 513 (replicate 513 7), status 3) ∷ []) anything
-    ∷ case (start ∷ []) ((send 1 0 0 [], status 3) ∷ []) anything
+    ∷ case replayStart (start ∷ []) ((send 1 0 512 (replicate 512 7), done) ∷ []) anything
+    ∷ case replayStart (start ∷ []) ((send 1 0 513 (replicate 513 7), status 3) ∷ []) anything
+    ∷ case replayStart (start ∷ []) ((send 1 0 0 [], status 3) ∷ []) anything
     -- "Finish with nothing received, 8 ticks: Failed, Query 7/3."
-    ∷ case (start ∷ finish 1 ∷ ticks 8) ((query 1, 0x07 ∷ 0x00 ∷ 0x03 ∷ zeros 9) ∷ []) failed
+    ∷ case replayStart (start ∷ finish 1 ∷ ticks 8) ((query 1, 0x07 ∷ 0x00 ∷ 0x03 ∷ zeros 9) ∷ []) failed
     -- "one record, version 1, zero payload: last bytes 01 00 01 00; with bytes 12 to 15 FF: 00 00 01 00."
-    ∷ case (transferred (one-record (zeros 112) (0x01 ∷ 0x00 ∷ 0x01 ∷ 0x00 ∷ []))) ((query 1, done ++ le 8 1) ∷ []) staged-1
-    ∷ case (transferred (one-record (replicate 4 0xFF ++ zeros 108) (0x00 ∷ 0x00 ∷ 0x01 ∷ 0x00 ∷ []))) ((query 1, done ++ le 8 1) ∷ []) staged-1
+    ∷ case replayStart (transferred (one-record (zeros 112) (0x01 ∷ 0x00 ∷ 0x01 ∷ 0x00 ∷ []))) ((query 1, done ++ le 8 1) ∷ []) staged-1
+    ∷ case replayStart (transferred (one-record (replicate 4 0xFF ++ zeros 108) (0x00 ∷ 0x00 ∷ 0x01 ∷ 0x00 ∷ []))) ((query 1, done ++ le 8 1) ∷ []) staged-1
     -- "ten wrong passphrases, then the right one: ten times 11, then 10."
-    ∷ case (set-passphrase (replicate 32 9) ∷ []) (repeated 10 (disable (replicate 32 8), status 11) ++ ((disable (replicate 32 9), status 10) ∷ [])) anything
+    ∷ case replayStart (set-passphrase (replicate 32 9) ∷ []) (repeated 10 (disable (replicate 32 8), status 11) ++ ((disable (replicate 32 9), status 10) ∷ [])) anything
     ∷ []

@@ -1,0 +1,74 @@
+-- Laws of the tests on lists, one for each way that a loop goes on.
+use mathlib.Core.Path.{_≡_, refl, sym, _∙_, ap}
+use mathlib.Core.Bool.{Bool, true, false, _&&_, false≢true}
+use mathlib.Core.List.{List, [], _∷_, _++_}
+use Prim.Native.Nat.{ℕ, suc, _≤_, _<_, _+_}
+use native.Mathlib.Nat.{le-of-lt, zero-add}
+use native.Mathlib.Numerals.{add-one}
+use borrow.Author.Tests.{eq-eqb, ne-eqb, eqb-true}
+use lib.Dec.{eqb}
+use lib.ListN.{length, getD, take, drop, set, drop-of-length-le}
+use lib.Seq.{drop-cons, take-suc, append-snoc, set-at, length-take-le, take-length}
+use Rattle.rules.specs.Bytes.{zeros?, same?, splice}
+
+-- a scan for a byte that is not 0, at place i: on, stopped, at the end
+module _ (s : List ℕ) (i : ℕ) (whole : zeros? (drop i s) ≡ zeros? s) where
+  pub zeros-on : i < length s → getD s i 0 ≡ 0 → zeros? (drop (i + 1) s) ≡ zeros? s
+  unfolding zeros?
+  zeros-on h e = sym (rw (add-one, drop-cons s i 0 h, eq-eqb (getD s i 0) 0 e) refl) ∙ whole
+
+  pub zeros-stop : i < length s → (getD s i 0 ≡ 0 → ⊥) → false ≡ zeros? s
+  unfolding zeros?
+  zeros-stop h n = sym (rw (drop-cons s i 0 h, ne-eqb (getD s i 0) 0 n) refl) ∙ whole
+
+  pub zeros-end : length s ≤ i → true ≡ zeros? s
+  unfolding zeros?
+  zeros-end h = sym (rw (drop-of-length-le s h) refl) ∙ whole
+
+-- a scan for a place at which two lists differ
+module _ (a b : List ℕ) (i : ℕ) (whole : same? (drop i a) (drop i b) ≡ same? a b) where
+  pub same-on : i < length a → i < length b → getD a i 0 ≡ getD b i 0 → same? (drop (i + 1) a) (drop (i + 1) b) ≡ same? a b
+  unfolding same?
+  same-on h k e = sym (rw (add-one, drop-cons a i 0 h, drop-cons b i 0 k, eq-eqb (getD a i 0) (getD b i 0) e) refl) ∙ whole
+
+  pub same-stop : i < length a → i < length b → (getD a i 0 ≡ getD b i 0 → ⊥) → false ≡ same? a b
+  unfolding same?
+  same-stop h k n = sym (rw (drop-cons a i 0 h, drop-cons b i 0 k, ne-eqb (getD a i 0) (getD b i 0) n) refl) ∙ whole
+
+  pub same-end : length a ≤ i → length b ≤ i → true ≡ same? a b
+  unfolding same?
+  same-end h k = sym (rw (drop-of-length-le a h, drop-of-length-le b k) refl) ∙ whole
+
+pub same-true : (a b : List ℕ) → same? a b ≡ true → a ≡ b
+unfolding same?
+same-true [] [] e = refl
+same-true [] (y ∷ ys) e = absurd (false≢true e)
+same-true (x ∷ xs) [] e = absurd (false≢true e)
+same-true (x ∷ xs) (y ∷ ys) e = go (eqb x y) refl e (same-true xs ys)
+  where
+    go : (t : Bool) → eqb x y ≡ t → (t && same? xs ys) ≡ true → (same? xs ys ≡ true → xs ≡ ys) → (x ∷ xs) ≡ (y ∷ ys)
+    go true p q r = cc (eqb-true x y p, r q)
+    go false p q r = absurd (false≢true q)
+
+pub same-self : (a : List ℕ) → same? a a ≡ true
+unfolding same?
+same-self [] = refl
+same-self (x ∷ xs) = rw (eq-eqb x x refl) (same-self xs)
+
+pub same-lengths : (a b : List ℕ) → (length a ≡ length b → ⊥) → false ≡ same? a b
+unfolding same?
+same-lengths a b n = go (same? a b) refl
+  where
+    go : (t : Bool) → same? a b ≡ t → false ≡ t
+    go true p = absurd (n (ap length (same-true a b p)))
+    go false p = refl
+
+-- a copy to the front, at place i
+pub copy-on : (to from : List ℕ) (i : ℕ) → i < length from → i < length to
+    → set (take i from ++ drop i to) i (getD from i 0) ≡ take (i + 1) from ++ drop (i + 1) to
+copy-on to from i h k =
+    rw (add-one, drop-cons to i 0 k, take-suc from i 0 h, append-snoc)
+    (set-at (take i from) (getD to i 0) (drop (suc i) to) (getD from i 0) i (length-take-le i from (le-of-lt h)))
+
+pub copy-end : (to from : List ℕ) (i : ℕ) → i ≡ length from → take i from ++ drop i to ≡ splice 0 from to
+copy-end to from i e = rw (e, take-length, zero-add)

@@ -1,0 +1,67 @@
+use native.Mathlib.Nat.{sub-zero}
+use borrow.Author.Needs.{needs}
+use mathlib.Core.Path.{_≡_, refl, sym, _∙_, ap}
+use mathlib.Core.List.{_++_}
+use Prim.Native.Nat.{ℕ, _≤_, _<_, _-_, _+_, _^_}
+use native.Mathlib.Omega.{arith}
+use lib.ListN.{length, drop, take, getD, length-set, drop-of-length-le}
+use lib.Seq.{take-length, drop-length}
+use Rattle.rules.specs.Bytes.{le}
+use Rattle.base.proofs.Le.{put-on, put-end}
+use Rattle.base.proofs.put.Statement.{statement}
+use Rattle.base.proofs.put.Tie as tie
+use Rattle.base.proofs.put.Reads as reads
+use Rattle.base.proofs.put.Lts as lts
+
+abbrev Inv-loop : tie.InvT-loop
+Inv-loop out₀ n m₀ i₀ out m i = (i ≤ length out₀) × (length out ≡ length out₀) × (take i out ++ le (length out₀ - i) m ≡ le (length out₀) n)
+
+abbrev μ-loop : tie.MeasureT-loop
+μ-loop out₀ n m₀ i₀ out m i = length out₀ - i
+
+-- src/lib.rt:64:5
+loop-holds : tie.Need-loop-holds Inv-loop μ-loop
+loop-holds c = (search needs, refl, ap (λ k. le k (c .args .n)) (sub-zero (length (c .args .out .now))))
+
+-- src/lib.rt:65:18
+cast-out : tie.Need-cast-out Inv-loop μ-loop
+cast-out c = search needs
+
+-- src/lib.rt:65:9
+slice-write-out : tie.Need-slice-write-out Inv-loop μ-loop
+slice-write-out c = search needs
+
+-- src/lib.rt:67:9
+add-i : tie.Need-add-i Inv-loop μ-loop
+add-i c = search needs
+
+-- src/lib.rt:64:5
+loop-less : tie.Need-loop-less Inv-loop μ-loop
+loop-less c = search needs
+
+-- src/lib.rt:64:5
+loop-again : tie.Need-loop-again Inv-loop μ-loop
+loop-again c = (search needs, simp length-set (omega arith), put-on _ (c .before .loop .i) (length (c .before .before .args .out .now)) _ _ (c .before .loop .inv .1) (c .before .loop .inv .2) (omega arith))
+
+-- src/lib.rt:59:1
+same-length : tie.Need-same-length Inv-loop μ-loop
+same-length c = search needs
+
+-- src/lib.rt:59:1
+returns : tie.Need-returns Inv-loop μ-loop
+returns c = put-end _ (c .before .loop .i) (length (c .before .before .args .out .now)) _ _ (c .before .loop .inv .1) (c .before .loop .inv .2) (omega arith)
+
+pub put-spec : {M : Type 1} → statement M
+put-spec =
+    tie.close
+    (tie.spec
+    Inv-loop
+    μ-loop
+    loop-holds
+    cast-out
+    slice-write-out
+    add-i
+    loop-less
+    loop-again
+    same-length
+    returns)

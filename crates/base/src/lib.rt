@@ -1,0 +1,126 @@
+// Bytes: tests on them, copies of them.
+ghost use mathlib.Core.Path.{_≡_};
+ghost use Rattle.rules.specs.Bytes.{zeros?, same?, le, ofLe, splice, numberAt};
+ghost use Prim.Native.Nat.{_≤_, _+_};
+ghost use lib.ListN.{length};
+
+// All bytes are zero.
+pub fn all_zero(s: &[u8]) -> bool
+    ensures { λ r. ⌜ r ≡ zeros? (now (s .entry)) ⌝ }
+{
+    let mut i = 0;
+    while i < s.len() {
+        if s[i] != 0 {
+            return false;
+        }
+        i += 1;
+    }
+    true
+}
+
+// The two slices hold the same bytes.
+pub fn same(a: &[u8], b: &[u8]) -> bool
+    ensures { λ r. ⌜ r ≡ same? (now (a .entry)) (now (b .entry)) ⌝ }
+{
+    if a.len() != b.len() {
+        return false;
+    }
+    let mut i = 0;
+    while i < a.len() {
+        if a[i] != b[i] {
+            return false;
+        }
+        i += 1;
+    }
+    true
+}
+
+// The number whose bytes, lowest first, the slice holds.
+pub fn number(s: &[u8]) -> u64
+    requires { ⌜ length (now s) ≤ 8 ⌝ }
+    ensures { λ r. ⌜ r ≡ ofLe (now (s .entry)) ⌝ }
+{
+    let mut n: u64 = 0;
+    let mut i = s.len();
+    while 0 < i {
+        i -= 1;
+        n = n * 256 + wide(s[i]);
+    }
+    n
+}
+
+pub fn wide(x: u8) -> u64
+    ensures { λ r. ⌜ r ≡ x ⌝ }
+{
+    x as u64
+}
+
+// Fills the slice with the bytes of n, lowest first.
+pub fn put(out: &mut [u8], n: u64)
+    ensures { λ r. ⌜ now (out .exit) ≡ le (length (now (out .entry))) n ⌝ }
+{
+    let mut m = n;
+    let mut i = 0;
+    while i < out.len() {
+        out[i] = (m % 256) as u8;
+        m = m / 256;
+        i += 1;
+    }
+}
+
+// Copies the bytes of `from` to the front of `to`.
+pub fn copy(to: &mut [u8], from: &[u8])
+    requires { ⌜ length (now from) ≤ length (now to) ⌝ }
+    ensures { λ r. ⌜ now (to .exit) ≡ splice 0 (now (from .entry)) (now (to .entry)) ⌝ }
+{
+    let mut i = 0;
+    while i < from.len() {
+        to[i] = from[i];
+        i += 1;
+    }
+}
+
+// Writes the k bytes of n at a place.
+pub fn put_at(out: &mut [u8], at: usize, k: usize, n: u64)
+    requires { ⌜ at + k ≤ length (now out) ⌝ }
+    ensures { λ r. ⌜ now (out .exit) ≡ splice at (le k n) (now (out .entry)) ⌝ }
+{
+    let e = at + k;
+    put(&mut out[at..e], n);
+}
+
+// Writes the bytes of `from` at a place.
+pub fn copy_at(out: &mut [u8], at: usize, from: &[u8])
+    requires { ⌜ at + length (now from) ≤ length (now out) ⌝ }
+    ensures { λ r. ⌜ now (out .exit) ≡ splice at (now (from .entry)) (now (out .entry)) ⌝ }
+{
+    let e = at + from.len();
+    copy(&mut out[at..e], from);
+}
+
+// The number in the 4 bytes at a place.
+pub fn word(s: &[u8], at: usize) -> u32
+    requires { ⌜ at + 4 ≤ length (now s) ⌝ }
+    ensures { λ r. ⌜ r ≡ numberAt 4 at (now (s .entry)) ⌝ }
+{
+    let e = at + 4;
+    number(&s[at..e]) as u32
+}
+
+// The number in the 2 bytes at a place.
+pub fn half(s: &[u8], at: usize) -> u16
+    requires { ⌜ at + 2 ≤ length (now s) ⌝ }
+    ensures { λ r. ⌜ r ≡ numberAt 2 at (now (s .entry)) ⌝ }
+{
+    let e = at + 2;
+    number(&s[at..e]) as u16
+}
+
+// The number in the 8 bytes at a place.
+pub fn long(s: &[u8], at: usize) -> u64
+    requires { ⌜ at + 8 ≤ length (now s) ⌝ }
+    ensures { λ r. ⌜ r ≡ numberAt 8 at (now (s .entry)) ⌝ }
+{
+    let e = at + 8;
+    number(&s[at..e])
+}
