@@ -75,3 +75,7 @@ pub numberAt-below : (k at : ℕ) (s : List ℕ) → Bytes s → numberAt k at s
 numberAt-below k at s h =
     let short : length (take k (drop at s)) ≤ k = rw length-take (min-le-left k (length (drop at s))) in
     ofLe-fits (take k (drop at s)) k (bytes-take k (drop at s) (bytes-drop s at h)) short
+
+-- one byte is a number by itself
+pub byte-at : (s : List ℕ) (at : ℕ) → at < length s → getD s at 0 ≡ numberAt 1 at s
+byte-at s at h = sym (rw (drop-cons s at 0 h) (omega arith))

@@ -107,6 +107,14 @@ pub fn word(s: &[u8], at: usize) -> u32
     number(&s[at..e]) as u32
 }
 
+// The byte at a place.
+pub fn byte(s: &[u8], at: usize) -> u8
+    requires { ⌜ at + 1 ≤ length (now s) ⌝ }
+    ensures { λ r. ⌜ r ≡ numberAt 1 at (now (s .entry)) ⌝ }
+{
+    s[at]
+}
+
 // The number in the 2 bytes at a place.
 pub fn half(s: &[u8], at: usize) -> u16
     requires { ⌜ at + 2 ≤ length (now s) ⌝ }

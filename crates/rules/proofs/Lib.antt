@@ -1,2 +1,4 @@
 pub mod Claim
 pub mod Choice
+pub mod Passed
+pub mod Accepted

@@ -11,69 +11,67 @@ use Rattle.rules.specs.With.{_with-transfer_, _with-phase_, _with-contex
 use Rattle.rules.specs.Record.{_is_, fresh}
 use Rattle.rules.specs.Module.{Module, Result, Event, call, tick, step, after}
 use Rattle.rules.specs.Replay.{replayStart}
-use Rattle.rules.specs.declared.Phase.the-variants.{Idle, Receiving, Staged, Failed}
+use Rattle.rules.specs.declared.Phase.the-variants.{Receiving, Staged, Failed}
 
--- A row: how the module got there, which is a module and the events that then came; then calls, each with the answer bytes that the case expects; then
--- what the case says of record and area in the end.
+-- What a case does: it makes a call and expects these answer bytes, or lets ticks pass.
+infix 68 _answers_
+pub data Move : Type 0 where
+  _answers_ : Event → List ℕ → Move
+  passing : (ticks : ℕ) → Move
+
+-- A row: the module that the case begins with; what is done; and what the case says of record and area in the end.
 pub record Case : Type 0 where
   pub from : Module
-  pub before : List Event
-  pub calls : List (Event × List ℕ)
+  pub moves : List Move
   pub ends : Module → Bool
 
 -- Every call is lent 64 bytes of 255, so that an answer byte left unwritten, or one written past the answer, shows.
 abbrev buffer : List ℕ
 buffer = replicate 64 255
 
-abbrev at-revision : (revision index : ℕ) (request : List ℕ) → Event
-at-revision revision index request = call 1 revision index request buffer
-
-abbrev ask : (index : ℕ) (request : List ℕ) → Event
-ask index request = at-revision 2 index request
-
--- a module is asked the calls in turn, and gives each answer that is expected, of the length that is expected, and leaves the buffer's other bytes
-abbrev answers : Result → (expected : List ℕ) → Bool
-answers result expected =
+-- the answer is the one expected, of its length, and the buffer's other bytes are as they came
+abbrev as-expected : Result → (expected : List ℕ) → Bool
+as-expected result expected =
     (result .reply .length =? length expected) && same? (result .answer) (expected ++ drop (length expected) buffer)
 
 abbrev next : Module → Event → Result
 next m event = step (m .device) (m .area) event
 
-abbrev run : Module → List Event → Module
-run m [] = m
-run m (event ∷ events) = run (after (next m event)) events
+abbrev ticked : ℕ → Module → Module
+ticked zero m = m
+ticked (suc ticks) m = ticked ticks (after (next m tick))
 
-abbrev holdsFrom : Module → List (Event × List ℕ) → (Module → Bool) → Bool
+abbrev holdsFrom : Module → List Move → (Module → Bool) → Bool
 holdsFrom m [] ends = ends m
-holdsFrom m (asked ∷ calls) ends = answers (next m (asked .0)) (asked .1) && holdsFrom (after (next m (asked .0))) calls ends
+holdsFrom m ((event answers expected) ∷ moves) ends = as-expected (next m event) expected && holdsFrom (after (next m event)) moves ends
+holdsFrom m (passing ticks ∷ moves) ends = holdsFrom (ticked ticks m) moves ends
 
 abbrev pub holds : Case → Bool
-holds c = holdsFrom (run (c .from) (c .before)) (c .calls) (c .ends)
+holds c = holdsFrom (c .from) (c .moves) (c .ends)
 
 -- the numbers of the rows that do not hold
 abbrev pub failing : (number : ℕ) → List Case → List ℕ
 failing number [] = []
 failing number (c ∷ cases) = if holds c then failing (number + 1) cases else number ∷ failing (number + 1) cases
 
--- the answers that are a status alone
-abbrev done : List ℕ
-done = 0x00 ∷ 0x00 ∷ 0x00 ∷ 0x00 ∷ []
+-- calls by host 1 at revision 2, but where a revision is named
+abbrev at-revision : (revision index : ℕ) (request : List ℕ) → Event
+at-revision revision index request = call 1 revision index request buffer
 
-abbrev status : ℕ → List ℕ
-status n = n ∷ 0x00 ∷ 0x00 ∷ 0x00 ∷ []
+abbrev ask : (index : ℕ) (request : List ℕ) → Event
+ask index request = at-revision 2 index request
 
--- requests of the functions that the cases use
 abbrev start : Event
 start = ask 13 []
 
-abbrev send : (context offset size : ℕ) (piece : List ℕ) → Event
-send context offset size piece = ask 14 (le 4 context ++ le 4 offset ++ le 4 size ++ piece)
+abbrev send : (offset size : ℕ) (piece : List ℕ) → Event
+send offset size piece = ask 14 (le 4 1 ++ le 4 offset ++ le 4 size ++ piece)
 
-abbrev finish : (context : ℕ) → Event
-finish context = ask 15 (0 ∷ zeros 3 ++ le 4 context)
+abbrev finish : Event
+finish = ask 15 (zeros 4 ++ le 4 1)
 
-abbrev query : (context : ℕ) → Event
-query context = ask 16 (le 4 context)
+abbrev query : Event
+query = ask 16 (le 4 1)
 
 abbrev set-passphrase : List ℕ → Event
 set-passphrase new = ask 20 (zeros 32 ++ new)
@@ -81,9 +79,12 @@ set-passphrase new = ask 20 (zeros 32 ++ new)
 abbrev disable : List ℕ → Event
 disable given = ask 21 given
 
-abbrev ticks : ℕ → List Event
-ticks zero = []
-ticks (suc n) = tick ∷ ticks n
+-- an answer that is a status alone, and Start's
+abbrev status : ℕ → List ℕ
+status n = le 2 n ++ le 2 0
+
+abbrev started : List ℕ
+started = status 0 ++ le 4 1
 
 -- a module that has received so many bytes, in the transfer with context 1; its area is full of 7
 abbrev receiving : ℕ → Module
@@ -93,22 +94,25 @@ receiving n =
       area = replicate areaSize 7;
     }
 
--- the record whose transfer is verified: Start, one Send of 128 bytes, Finish, 8 ticks
-abbrev transferred : List ℕ → List Event
-transferred image = start ∷ send 1 0 128 image ∷ finish 1 ∷ ticks 8
-
 -- one record, version 1: number 0 of 1, the version, the payload, and the last bytes
 abbrev one-record : (payload last : List ℕ) → List ℕ
 one-record payload last = le 2 0 ++ le 2 1 ++ le 8 1 ++ payload ++ last
 
-abbrev repeated : ℕ → (Event × List ℕ) → List (Event × List ℕ)
-repeated zero asked = []
-repeated (suc n) asked = asked ∷ repeated n asked
+-- its whole transfer, which stages version 1
+abbrev staging : List ℕ → List Move
+staging image =
+    start answers started
+    ∷ send 0 128 image answers status 0
+    ∷ finish answers status 0
+    ∷ passing 8
+    ∷ query answers (status 0 ++ le 8 1)
+    ∷ []
+
+abbrev repeated : ℕ → Move → List Move
+repeated zero move = []
+repeated (suc n) move = move ∷ repeated n move
 
 -- what a case may say of the end
-abbrev anything : Module → Bool
-anything m = true
-
 abbrev failed : Module → Bool
 failed m = m .device .transfer .phase is Failed
 
@@ -119,31 +123,42 @@ abbrev received-all : Module → Bool
 received-all m =
     m .device .transfer .received =? 16384 && same? (m .area) (replicate 16380 7 ++ (1 ∷ 2 ∷ 3 ∷ 4 ∷ []))
 
-abbrev case : Module → List Event → List (Event × List ℕ) → (Module → Bool) → Case
-case from before calls ends = record { from = from; before = before; calls = calls; ends = ends }
+abbrev case-from : Module → List Move → (Module → Bool) → Case
+case-from from moves ends = record { from = from; moves = moves; ends = ends }
+
+-- a case that begins with a fresh module and an area of zeros; one that says nothing of the end
+abbrev case-to : List Move → (Module → Bool) → Case
+case-to moves ends = case-from replayStart moves ends
+
+abbrev case : List Move → Case
+case moves = case-to moves (λ m. true)
 
 abbrev pub cases : List Case
 cases =
     -- "function 0 at revisions 2, 1 and 3, as above."
-    case replayStart [] ((at-revision 2 0 [], 0x05 ∷ 0xF0 ∷ 0xFB ∷ 0x00 ∷ []) ∷ []) anything
-    ∷ case replayStart [] ((at-revision 1 0 [], 0x05 ∷ 0x00 ∷ 0x00 ∷ 0x00 ∷ []) ∷ []) anything
-    ∷ case replayStart [] ((at-revision 3 0 [], 0x00 ∷ 0x00 ∷ 0x00 ∷ 0x00 ∷ []) ∷ []) anything
+    case (at-revision 2 0 [] answers (0x05 ∷ 0xF0 ∷ 0xFB ∷ 0x00 ∷ []) ∷ [])
+    ∷ case (at-revision 1 0 [] answers (0x05 ∷ 0x00 ∷ 0x00 ∷ 0x00 ∷ []) ∷ [])
+    ∷ case (at-revision 3 0 [] answers (0x00 ∷ 0x00 ∷ 0x00 ∷ 0x00 ∷ []) ∷ [])
     -- "function 18, revision 2: status 1, 4 bytes."
-    ∷ case replayStart [] ((ask 18 [], status 1) ∷ []) anything
-    -- "Send at 16,380, length 4, received 16,380: accepted; at 16,381: 3." The second with 16,381 received, so that the sum alone decides.
-    ∷ case (receiving 16380) [] ((send 1 16380 4 (1 ∷ 2 ∷ 3 ∷ 4 ∷ []), done) ∷ []) received-all
-    ∷ case (receiving 16381) [] ((send 1 16381 4 (1 ∷ 2 ∷ 3 ∷ 4 ∷ []), status 3) ∷ []) anything
+    ∷ case (ask 18 [] answers status 1 ∷ [])
+    -- "Send at 16,380, length 4, received 16,380: accepted; at 16,381: 3." The second also with 16,381 received, where the sum alone decides.
+    ∷ case-from (receiving 16380) (send 16380 4 (1 ∷ 2 ∷ 3 ∷ 4 ∷ []) answers status 0 ∷ []) received-all
+    ∷ case-from (receiving 16380) (send 16381 4 (1 ∷ 2 ∷ 3 ∷ 4 ∷ []) answers status 3 ∷ []) (λ m. true)
+    ∷ case-from (receiving 16381) (send 16381 4 (1 ∷ 2 ∷ 3 ∷ 4 ∷ []) answers status 3 ∷ []) (λ m. true)
     -- "while Idle, offset 4,294,967,295, length 2, two piece bytes: 3, not 7/1."
-    ∷ case replayStart [] ((send 1 4294967295 2 (1 ∷ 2 ∷ []), status 3) ∷ []) anything
+    ∷ case (send 4294967295 2 (1 ∷ 2 ∷ []) answers status 3 ∷ [])
     -- "length 512 accepted, 513: 3; length 0: 3."
-    ∷ case replayStart (start ∷ []) ((send 1 0 512 (replicate 512 7), done) ∷ []) anything
-    ∷ case replayStart (start ∷ []) ((send 1 0 513 (replicate 513 7), status 3) ∷ []) anything
-    ∷ case replayStart (start ∷ []) ((send 1 0 0 [], status 3) ∷ []) anything
+    ∷ case (start answers started ∷ send 0 512 (replicate 512 7) answers status 0 ∷ [])
+    ∷ case (start answers started ∷ send 0 513 (replicate 513 7) answers status 3 ∷ [])
+    ∷ case (start answers started ∷ send 0 0 [] answers status 3 ∷ [])
     -- "Finish with nothing received, 8 ticks: Failed, Query 7/3."
-    ∷ case replayStart (start ∷ finish 1 ∷ ticks 8) ((query 1, 0x07 ∷ 0x00 ∷ 0x03 ∷ zeros 9) ∷ []) failed
+    ∷ case-to (start answers started ∷ finish answers status 0 ∷ passing 8 ∷ query answers (le 2 7 ++ le 2 3 ++ zeros 8) ∷ []) failed
     -- "one record, version 1, zero payload: last bytes 01 00 01 00; with bytes 12 to 15 FF: 00 00 01 00."
-    ∷ case replayStart (transferred (one-record (zeros 112) (0x01 ∷ 0x00 ∷ 0x01 ∷ 0x00 ∷ []))) ((query 1, done ++ le 8 1) ∷ []) staged-1
-    ∷ case replayStart (transferred (one-record (replicate 4 0xFF ++ zeros 108) (0x00 ∷ 0x00 ∷ 0x01 ∷ 0x00 ∷ []))) ((query 1, done ++ le 8 1) ∷ []) staged-1
+    ∷ case-to (staging (one-record (zeros 112) (0x01 ∷ 0x00 ∷ 0x01 ∷ 0x00 ∷ []))) staged-1
+    ∷ case-to (staging (one-record (replicate 4 0xFF ++ zeros 108) (0x00 ∷ 0x00 ∷ 0x01 ∷ 0x00 ∷ []))) staged-1
     -- "ten wrong passphrases, then the right one: ten times 11, then 10."
-    ∷ case replayStart (set-passphrase (replicate 32 9) ∷ []) (repeated 10 (disable (replicate 32 8), status 11) ++ ((disable (replicate 32 9), status 10) ∷ [])) anything
+    ∷ case
+    (set-passphrase (replicate 32 9) answers status 0
+    ∷ repeated 10 (disable (replicate 32 8) answers status 11)
+    ++ (disable (replicate 32 9) answers status 10 ∷ []))
     ∷ []

@@ -5,18 +5,20 @@ use Prim.Native.Nat.{ℕ}
 use mathlib.Core.List.{List, [], _∷_, _++_}
 use Rattle.rules.specs.Bytes.{le}
 use Rattle.rules.specs.With.{_with-transfer_, _with-thresholds_, _with-security_}
-use Rattle.rules.specs.Refusals.{Check, verdict, R1Check, eventChecks, statusBytes, answerLength, answerBytes, answerAfter, deviceAfter, areaAfter}
+use Rattle.rules.specs.Refusals.{Check, verdict, R1Check, eventChecks, statusBytes, statusLength, statusAnswer, answerAfter, left}
 use Rattle.rules.specs.Table.{rowOf, servedCheck, lengthCheck, mask}
 use Rattle.rules.specs.Thresholds.{ThresholdCall, GetThreshold, setThresholdOf, thresholdChecks, thresholdAnswer, thresholdChange}
 use Rattle.rules.specs.Transfer.{TransferCall, GetFwInfo, Start, sendOf, finishOf, queryOf, transferChecks, transferAnswer, transferChange, transferArea, tickChange, transferPower}
 use Rattle.rules.specs.Security.{SecurityCall, GetSecurityState, setPassphraseOf, Disable, Unlock, Freeze, securityChecks, securityAnswer, securityChange, securityPower}
+use Rattle.rules.specs.declared.Refusal.the-variants.{R, Status}
 use Rattle.rules.specs.declared.Verdict.{Verdict}
+use Rattle.rules.specs.declared.Verdict.the-variants.{Accepted, Refused}
 use Rattle.rules.specs.declared.Reply.{Reply}
 use Rattle.rules.specs.declared.Device.{Device}
 use Rattle.rules.specs.declared.Function.{Function}
 use Rattle.rules.specs.declared.Function.the-variants as Function′
 
--- a call, decoded: function 0 with its revision, or a call on one part of the record; an index that the table lacks has no call
+-- a call, decoded: function 0 with its revision, or a call on one part of the record; an index that the table lacks, to which status 1 comes first
 pub data Call : Type 0 where
   OnMask : (revision : ℕ) → Call
   OnThresholds : ThresholdCall → Call
@@ -91,25 +93,38 @@ callChecks d area revision index request answer =
     ∷ eventChecks d area
     ++ (servedCheck revision index ∷ lengthCheck index request ∷ checks d (callOf (rowOf index .function) revision request))
 
--- what a verdict on a call comes to
-abbrev pub outcome : Verdict → Device → (area : List ℕ) → Call → (functionLength : ℕ) (answer : List ℕ) → Result
-outcome v d area call n answer =
+abbrev pub reply : Verdict → ℕ → Reply
+reply v n = record { verdict = v; length = n }
+
+-- What a verdict on a call comes to, for a function whose answer has n bytes. "R numbers write nothing."
+abbrev pub outcome : Verdict → Device → (area : List ℕ) → Call → (n : ℕ) (answer : List ℕ) → Result
+outcome Accepted d area call n answer =
     record {
-      reply = record { verdict = v; length = answerLength v n };
-      device = deviceAfter v (change d call) d;
-      area = areaAfter v (changeArea call area) area;
-      answer = answerAfter (answerBytes v n (accepted d call)) answer;
+      reply = reply Accepted n;
+      device = change d call;
+      area = changeArea call area;
+      answer = answerAfter (accepted d call) answer;
+    }
+outcome (Refused (R number)) d area call n answer =
+    record { reply = reply (Refused (R number)) 0; device = d; area = area; answer = answer }
+outcome (Refused (Status status ext)) d area call n answer =
+    record {
+      reply = reply (Refused (Status status ext)) (statusLength status n);
+      device = left status d;
+      area = area;
+      answer = answerAfter (statusAnswer status ext n) answer;
     }
 
--- A call: any record, any area, any revision and function index, any request, any answer buffer.
+-- A call: any record of the declared widths, any area, any revision and function index, any request, any answer buffer.
 unfoldable pub callResult : Device → (area : List ℕ) (revision index : ℕ) (request answer : List ℕ) → Result
 callResult d area revision index request answer =
     outcome (verdict (callChecks d area revision index request answer)) d area (callOf (rowOf index .function) revision request) (rowOf index .answer) answer
 
--- a tick or a power cycle, which turns the record into another and writes no byte
+-- what a verdict on a tick or a power cycle comes to, which writes no byte
 abbrev pub happened : Verdict → (changed was : Device) (area : List ℕ) → Result
-happened v changed was area =
-    record { reply = record { verdict = v; length = 0 }; device = deviceAfter v changed was; area = area; answer = [] }
+happened Accepted changed was area = record { reply = reply Accepted 0; device = changed; area = area; answer = [] }
+happened (Refused refusal) changed was area =
+    record { reply = reply (Refused refusal) 0; device = was; area = area; answer = [] }
 
 -- "Tick."
 unfoldable pub tickResult : Device → (area : List ℕ) → Result

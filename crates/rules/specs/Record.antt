@@ -1,8 +1,9 @@
--- Document 01, "The device record": fresh, live, possible. The record itself is declared in src/lib.rt.
+-- Document 01, "The device record": fresh, live, possible. The record itself is declared in src/lib.rt, and its widths there bound its fields: contexts is
+-- at most 4,294,967,295, a passphrase is 32 bytes.
 -- Assumes nothing.
 use Prim.Native.Nat.{ℕ}
 use mathlib.Core.Bool.{Bool, true, false, not, _&&_, _||_}
-use Rattle.rules.specs.Tests.{_≤?_, _<?_, _=?_, _implies_}
+use Rattle.rules.specs.Tests.{_≤?_, _<?_, _=?_, _implies_, _unless_}
 use Rattle.rules.specs.Bytes.{zeros, zeros?}
 use Rattle.rules.specs.Numbers.{areaSize, verification, limit}
 use Rattle.rules.specs.declared.Phase.{Phase}
@@ -45,18 +46,18 @@ live t context = not (t .phase is Idle) && context =? current t
 -- elsewhere; staged version is 0 outside Staged;"
 unfoldable pub possibleTransfer : Transfer → Bool
 possibleTransfer t =
-    (not (t .phase is Idle) implies 1 ≤? t .contexts)
+    (1 ≤? t .contexts unless t .phase is Idle)
     && (t .received ≤? areaSize)
     && (t .phase is Idle implies t .received =? 0)
     && (t .phase is Verifying implies 1 ≤? t .ticks && t .ticks ≤? verification)
-    && (not (t .phase is Verifying) implies t .ticks =? 0)
-    && (not (t .phase is Staged) implies t .staged =? 0)
+    && (t .ticks =? 0 unless t .phase is Verifying)
+    && (t .staged =? 0 unless t .phase is Staged)
 
 -- "locked only if enabled; passphrase all zero if not enabled; attempts at most 10;"
 unfoldable pub possibleSecurity : Security → Bool
 possibleSecurity s =
     (s .locked implies s .enabled)
-    && (not (s .enabled) implies zeros? (s .passphrase))
+    && (zeros? (s .passphrase) unless s .enabled)
     && (s .attempts ≤? limit)
 
 -- "only enable bits 0 to 2 set; spare threshold at most 100."

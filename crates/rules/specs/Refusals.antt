@@ -46,48 +46,25 @@ abbrev pub refused? : Verdict → Bool
 refused? Accepted = false
 refused? (Refused refusal) = true
 
--- the numbers that the replay prints: an accepted call has status 0, a refusal its own number, and an extended number only beside a status
-abbrev pub statusOf : Verdict → ℕ
-statusOf Accepted = 0
-statusOf (Refused (R number)) = number
-statusOf (Refused (Status status ext)) = status
-
-abbrev pub extOf : Verdict → ℕ
-extOf Accepted = 0
-extOf (Refused (R number)) = 0
-extOf (Refused (Status status ext)) = ext
-
--- "Every other answer begins with a 2-byte status and a 2-byte extended number"
+-- "Every other answer begins with a 2-byte status and a 2-byte extended number (0 unless status is 7), but for function 0."
 abbrev pub statusBytes : (status ext : ℕ) → List ℕ
 statusBytes status ext = le 2 status ++ le 2 ext
 
--- The column "Answer bytes": none for an R number, 4 for status 1, else the function's length.
-abbrev pub answerLength : Verdict → (functionLength : ℕ) → ℕ
-answerLength Accepted n = n
-answerLength (Refused (R number)) n = 0
-answerLength (Refused (Status status ext)) n = if status =? 1 then 4 else n
+-- the column "Answer bytes" for a status: 4 for status 1, else the function's length
+abbrev pub statusLength : (status functionLength : ℕ) → ℕ
+statusLength status n = if status =? 1 then 4 else n
 
--- "R numbers write nothing." "On a nonzero status the rest of the function's answer length is zero."
-abbrev pub answerBytes : Verdict → (functionLength : ℕ) → (whenAccepted : List ℕ) → List ℕ
-answerBytes Accepted n bytes = bytes
-answerBytes (Refused (R number)) n bytes = []
-answerBytes (Refused (Status status ext)) n bytes =
-    statusBytes status ext ++ zeros (answerLength (Refused (Status status ext)) n - 4)
+-- "On a nonzero status the rest of the function's answer length is zero."
+abbrev pub statusAnswer : (status ext functionLength : ℕ) → List ℕ
+statusAnswer status ext n = statusBytes status ext ++ zeros (statusLength status n - 4)
 
 -- "Answer buffer bytes past that length stay as they came."
 abbrev pub answerAfter : (bytes answer : List ℕ) → List ℕ
 answerAfter bytes answer = splice 0 bytes answer
 
--- "status 11 alone adds one to attempts"
+-- "Every refusal leaves record and area unchanged; status 11 alone adds one to attempts."
 abbrev pub oneAttemptMore : Device → Device
 oneAttemptMore d = d with-security (d .security with-attempts (d .security .attempts + 1))
 
--- "Every refusal leaves record and area unchanged; status 11 alone adds one to attempts."
-abbrev pub deviceAfter : Verdict → (changed was : Device) → Device
-deviceAfter Accepted changed was = changed
-deviceAfter (Refused (R number)) changed was = was
-deviceAfter (Refused (Status status ext)) changed was = if status =? 11 then oneAttemptMore was else was
-
-abbrev pub areaAfter : Verdict → (changed was : List ℕ) → List ℕ
-areaAfter Accepted changed was = changed
-areaAfter (Refused refusal) changed was = was
+abbrev pub left : (status : ℕ) → Device → Device
+left status d = if status =? 11 then oneAttemptMore d else d

@@ -10,12 +10,14 @@ use Rattle.rules.specs.Bytes.{zeros}
 use Rattle.rules.specs.Text.{ascii, field}
 use Rattle.rules.specs.Numbers.{areaSize, answerRoom}
 use Rattle.rules.specs.Record.{fresh}
-use Rattle.rules.specs.Refusals.{statusOf, extOf}
 use Rattle.rules.specs.Module.{Module, Result, after, callResult, tickResult, powerResult}
 use Rattle.rules.specs.Log.{entryOf, requestIn, recordsIn, recordAt, shortTail}
 use Rattle.rules.specs.declared.Phase.{Phase}
 use Rattle.rules.specs.declared.Phase.the-variants.{Idle, Receiving, Verifying, Staged, Failed}
 use Rattle.rules.specs.declared.Device.{Device}
+use Rattle.rules.specs.declared.Refusal.the-variants.{R, Status}
+use Rattle.rules.specs.declared.Verdict.{Verdict}
+use Rattle.rules.specs.declared.Verdict.the-variants.{Accepted, Refused}
 use Rattle.rules.specs.declared.Reply.{Reply}
 use Rattle.rules.specs.declared.Entry.{Entry}
 use Rattle.rules.specs.declared.Entry.the-variants.{Call, Tick, Power, Bad}
@@ -35,11 +37,22 @@ played m Tick request = after (tickResult (m .device) (m .area))
 played m Power request = after (powerResult (m .device) (m .area))
 played m Bad request = m
 
+-- The two numbers of a call's line. A replay never gives an R number (docs/DECISIONS.md, A33).
+abbrev pub printedStatus : Verdict → ℕ
+printedStatus Accepted = 0
+printedStatus (Refused (R number)) = number
+printedStatus (Refused (Status status ext)) = status
+
+abbrev pub printedExt : Verdict → ℕ
+printedExt Accepted = 0
+printedExt (Refused (R number)) = 0
+printedExt (Refused (Status status ext)) = ext
+
 -- a call's line: status, extended number, and the answer's length; "function 0 prints `call - - 4`"
 abbrev pub callLine : (number index : ℕ) → Reply → List ℕ
 callLine number index reply =
     if index =? 0 then field number " call - - " ++ field (reply .length) "\n"
-    else (field number " call " ++ field (statusOf (reply .verdict)) " " ++ field (extOf (reply .verdict)) " " ++ field (reply .length) "\n")
+    else (field number " call " ++ field (printedStatus (reply .verdict)) " " ++ field (printedExt (reply .verdict)) " " ++ field (reply .length) "\n")
 
 -- the line of a log record. "A power cycle prints `power`, a bad record `bad`"
 abbrev pub entryLine : (number : ℕ) → Module → Entry → (request : List ℕ) → List ℕ

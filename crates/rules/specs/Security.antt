@@ -27,7 +27,7 @@ stateByte s = bit 1 (s .enabled) + bit 2 (s .locked) + bit 3 (s .frozen) + bit 4
 abbrev pub securityState : Security → List ℕ
 securityState s = zeros 4 ++ le 1 (stateByte s) ++ zeros 3
 
--- "For 20 to 23, frozen or attempts at 10 gives 10 first."
+-- "For 20 to 23, frozen or attempts at 10 gives 10 first." "The tenth wrong one still answers 11."
 abbrev pub frozenCheck : Security → Check
 frozenCheck s = s .frozen || s .attempts =? limit gives Status 10 0
 
@@ -47,7 +47,7 @@ setPassphraseChecks s given =
     ∷ (s .enabled && wrong s given gives Status 11 0)
     ∷ []
 
--- "else the new one is stored, enabled on, attempts 0"
+-- "else the new one is stored, enabled on, attempts 0" "Any 32 bytes may be a passphrase."
 abbrev pub setPassphraseChange : Security → (new : List ℕ) → Security
 setPassphraseChange s new = s with-passphrase new with-enabled true with-attempts 0
 
@@ -79,7 +79,7 @@ unlockChange s = s with-locked false with-attempts 0
 abbrev pub freezeChange : Security → Security
 freezeChange s = s with-frozen true
 
--- the checks, the answer after the status and the change, call by call
+-- The five calls together: their checks; their answers after the status; what they change.
 abbrev pub securityChecks : Security → SecurityCall → List Check
 securityChecks s GetSecurityState = []
 securityChecks s (SetPassphrase given new) = setPassphraseChecks s given

@@ -40,9 +40,13 @@ table =
     ∷ (23, row Freeze 2 0 4)
     ∷ []
 
--- an index that the table lacks: served from revision 3 on, so never
+-- the revisions are 1 and 2
+abbrev never : ℕ
+never = 3
+
+-- an index that the table lacks
 abbrev pub unserved : Row
-unserved = row-and-more Unserved 3 0 4
+unserved = row-and-more Unserved never 0 4
 
 abbrev pub lookUp : ℕ → List (ℕ × Row) → Row
 lookUp index [] = unserved
@@ -51,7 +55,7 @@ lookUp index (place ∷ places) = if index =? place .0 then place .1 else lookUp
 unfoldable pub rowOf : (index : ℕ) → Row
 rowOf index = lookUp index table
 
--- the revisions are 1 and 2, and a revision serves what it or an earlier one began to serve
+-- a revision serves what it or an earlier one began to serve
 abbrev pub served? : (revision : ℕ) → Row → Bool
 served? revision r = r .since ≤? revision && revision ≤? 2
 
@@ -63,7 +67,7 @@ servedCheck revision index = not (served? revision (rowOf index)) && not (index 
 abbrev pub fits? : Row → (request : List ℕ) → Bool
 fits? r request = if r .more then r .request ≤? length request else length request =? r .request
 
--- "status 3 | length or field wrong": the length; a Send's request under 12 bytes is refused here
+-- "status 3 | length or field wrong": the length. "[Send gives] 3 if the request is under 12 bytes" stands here too.
 abbrev pub lengthCheck : (index : ℕ) (request : List ℕ) → Check
 lengthCheck index request = not (fits? (rowOf index) request) gives Status 3 0
 
@@ -72,6 +76,6 @@ abbrev pub bits : (revision : ℕ) → List (ℕ × Row) → ℕ
 bits revision [] = 0
 bits revision (place ∷ places) = bit (place .0) (served? revision (place .1)) + bits revision places
 
--- "Function 0 answers 4 bytes of mask"
+-- "Function 0 answers 4 bytes of mask": "revision 2 gives 05 F0 FB 00, revision 1 gives 05 00 00 00, any other gives four zeros."
 unfoldable pub mask : (revision : ℕ) → ℕ
 mask revision = bits revision table

@@ -20,6 +20,10 @@ abbrev pub _=?_ : ℕ → ℕ → Bool
 m =? n = eqb m n
 
 -- where the first is true, the second is true
-infixr 25 _implies_
+infix 25 _implies_ _unless_
 abbrev pub _implies_ : Bool → Bool → Bool
 a implies b = not a || b
+
+-- where the second is not true, the first is
+abbrev pub _unless_ : Bool → Bool → Bool
+a unless b = b || a

@@ -31,7 +31,7 @@ abbrev pub thresholdAnswer : Thresholds → ThresholdCall → List ℕ
 thresholdAnswer h GetThreshold = thresholdBytes h ++ zeros 1
 thresholdAnswer h (SetThreshold enable spare media controller) = []
 
--- "else it stores all, with enable bits 3 to 15 cleared." "A temperature word is kept bit for bit"
+-- "else it stores all, with enable bits 3 to 15 cleared." "A temperature word is kept bit for bit". "Reserved bits .. are read past."
 abbrev pub thresholdChange : Thresholds → ThresholdCall → Thresholds
 thresholdChange h GetThreshold = h
 thresholdChange h (SetThreshold enable spare media controller) =

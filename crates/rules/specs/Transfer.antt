@@ -46,7 +46,7 @@ startChecks t =
     ∷ (t .contexts =? lastContext gives Status 8 0)
     ∷ []
 
--- "Else the next number is given, received is 0, phase Receiving;" "Numbers .. are never given again."
+-- "Else the next number is given, received is 0, phase Receiving;" "Numbers outlive power cycles and are never given again."
 abbrev pub startChange : Transfer → Transfer
 startChange t = t with-contexts (t .contexts + 1) with-received 0 with-phase Receiving
 
@@ -75,7 +75,7 @@ sendChange t size = t with-received (t .received + size)
 abbrev pub sendArea : (offset : ℕ) (piece area : List ℕ) → List ℕ
 sendArea offset piece area = splice offset piece area
 
--- "Finish: flag (1), reserved (3), context (4)."
+-- "Finish: flag (1), reserved (3), context (4)." "Reserved .. bytes of a request are read past."
 abbrev pub finishOf : (request : List ℕ) → TransferCall
 finishOf request = Finish (numberAt 1 0 request) (numberAt 4 4 request)
 
@@ -96,7 +96,7 @@ finishChange t flag =
 abbrev pub queryOf : (request : List ℕ) → TransferCall
 queryOf request = Query (numberAt 4 0 request)
 
--- "Not live: 7/1. Receiving: 7/4. Verifying: 7/2. Failed: 7/3. Staged: .. 6 if that is 0. Query changes nothing."
+-- "Not live: 7/1. Receiving: 7/4. Verifying: 7/2. Failed: 7/3. Staged: .. 6 if that is 0." In the last row only Staged is left.
 abbrev pub queryChecks : Transfer → (context : ℕ) → List Check
 queryChecks t context =
     (not (live t context) gives Status 7 1)
@@ -110,7 +110,7 @@ queryChecks t context =
 abbrev pub queryAnswer : Transfer → List ℕ
 queryAnswer t = le 8 (t .staged)
 
--- the checks, the answer after the status, the change of the record and the change of the area, call by call
+-- The five calls together: their checks; their answers after the status; what they change ("Query changes nothing."); and the area.
 abbrev pub transferChecks : Transfer → TransferCall → List Check
 transferChecks t GetFwInfo = []
 transferChecks t Start = startChecks t

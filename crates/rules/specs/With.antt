@@ -10,7 +10,9 @@ use Rattle.rules.specs.declared.Thresholds.{Thresholds}
 use Rattle.rules.specs.declared.Security.{Security}
 use Rattle.rules.specs.declared.Device.{Device}
 
-infixl 10 _with-phase_ _with-contexts_ _with-received_ _with-ticks_ _with-running_ _with-staged_ _with-enabled_ _with-locked_ _with-frozen_ _with-attempts_ _with-passphrase_ _with-transfer_ _with-thresholds_ _with-security_
+infixl 10 _with-phase_ _with-contexts_ _with-received_ _with-ticks_ _with-running_ _with-staged_
+infixl 10 _with-enabled_ _with-locked_ _with-frozen_ _with-attempts_ _with-passphrase_
+infixl 10 _with-transfer_ _with-thresholds_ _with-security_
 abbrev pub _with-phase_ : Transfer → Phase → Transfer
 t with-phase x = record { phase = x; contexts = t .contexts; received = t .received; ticks = t .ticks; running = t .running; staged = t .staged }
 

@@ -1,0 +1,14 @@
+use mathlib.Core.Path.{refl}
+use Rattle.rules.specs.Record.{possibleThresholds}
+use Rattle.record.proofs.possible_thresholds.Statement.{statement}
+use Rattle.record.proofs.possible_thresholds.Tie as tie
+use Rattle.record.proofs.possible_thresholds.Reads as reads
+use Rattle.record.proofs.possible_thresholds.Lts as lts
+
+-- src/lib.rt:77:1
+returns : tie.Need-returns
+unfolding possibleThresholds
+returns c = refl
+
+pub possible-thresholds-spec : {M : Type 1} → statement M
+possible-thresholds-spec = tie.close (tie.spec returns)
