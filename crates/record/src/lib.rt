@@ -2,7 +2,7 @@
 ghost use mathlib.Core.Path.{_≡_};
 ghost use Prim.Native.Nat.{_≤_};
 ghost use Rattle.rules.specs.Record.{phaseNumber, fresh, possible, possibleTransfer, possibleSecurity, possibleThresholds};
-ghost use Rattle.rules.specs.Refusals.{verdict, eventChecks, oneAttemptMore};
+ghost use Rattle.rules.specs.Refusals.{verdict, eventChecks, left};
 use rules::Device;
 use rules::Phase;
 use rules::Refusal;
@@ -103,14 +103,18 @@ pub fn judge_event(d: Device, area: &[u8]) -> Verdict
     Verdict::Accepted
 }
 
-// What status 11 alone changes. The attempts of a possible record leave room for one more.
-pub fn one_attempt_more(d: Device) -> Device
+// What a refusal by a status leaves: the record as it was, but for status 11, which adds one to attempts. A possible record's attempts leave room for it.
+pub fn left(status: u16, d: Device) -> Device
     requires { ⌜ d .security .attempts ≤ 10 ⌝ }
-    ensures { λ r. ⌜ r ≡ oneAttemptMore d ⌝ }
+    ensures { λ r. ⌜ r ≡ left status d ⌝ }
 {
-    let security = Security {
-        attempts: d.security.attempts + 1,
-        ..d.security
-    };
-    Device { security, ..d }
+    let wrong = status == 11;
+    if wrong {
+        let security = Security {
+            attempts: d.security.attempts + 1,
+            ..d.security
+        };
+        return Device { security, ..d };
+    }
+    d
 }

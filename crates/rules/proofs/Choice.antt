@@ -19,3 +19,16 @@ and-true false b e = absurd (false≢true e)
 pub if-both : {A : Type 0} (P : A → Type 0) (t : Bool) {a b : A} → P a → P b → P (if t then a else b)
 if-both P true p q = p
 if-both P false p q = q
+
+-- tests that are joined and true are each true
+pub and-3 : (a b c : Bool) → (a && b && c) ≡ true → (a ≡ true) × (b ≡ true) × (c ≡ true)
+and-3 a b c e = let p = and-true (a && b) c e in let q = and-true a b (p .0) in (q .0, q .1, p .1)
+
+pub and-6 : (a b c d e f : Bool) → (a && b && c && d && e && f) ≡ true
+    → (a ≡ true) × (b ≡ true) × (c ≡ true) × (d ≡ true) × (e ≡ true) × (f ≡ true)
+and-6 a b c d e f h =
+    let p = and-true (a && b && c && d && e) f h in
+    let q = and-true (a && b && c && d) e (p .0) in
+    let r = and-true (a && b && c) d (q .0) in
+    let s = and-3 a b c (r .0) in
+    (s .0, s .1, s .2, r .1, q .1, p .1)

@@ -1,6 +1,6 @@
 -- What a verdict says of the rows: an accepted event made every test false, and rows that are joined are judged one part after the other.
 -- Assumes nothing.
-use mathlib.Core.Path.{_≡_, refl, ap, sym}
+use mathlib.Core.Path.{_≡_, refl, sym, _∙_, ap}
 use mathlib.Core.Bool.{Bool, true, false, true≢false}
 use mathlib.Core.List.{List, [], _∷_, _++_}
 use Rattle.rules.specs.Tests.{if_then_else_}
@@ -28,3 +28,11 @@ unfolding verdict
 verdict-join [] later = refl
 verdict-join ((true gives refusal) ∷ rows) later = refl
 verdict-join ((false gives refusal) ∷ rows) later = verdict-join rows later
+
+-- joined rows that accept have both accepted
+pub both-accepted : (rows later : List Check) → verdict (rows ++ later) ≡ Accepted → (verdict rows ≡ Accepted) × (verdict later ≡ Accepted)
+both-accepted rows later e = go (verdict rows) (sym (verdict-join rows later) ∙ e)
+  where
+    go : (v : Verdict) → andThen v (verdict later) ≡ Accepted → (v ≡ Accepted) × (verdict later ≡ Accepted)
+    go Accepted h = (refl, h)
+    go (Refused refusal) h = absurd (true≢false (ap refused? h))

@@ -42,7 +42,7 @@ callOf Function′.Unlock revision request = OnSecurity (Unlock request)
 callOf Function′.Freeze revision request = OnSecurity Freeze
 callOf Function′.Unserved revision request = OnNothing
 
--- "then each function's checks as listed"
+-- each function's checks
 abbrev pub checks : Device → Call → List Check
 checks d (OnMask revision) = []
 checks d (OnThresholds call) = thresholdChecks call
@@ -86,12 +86,15 @@ pub record Result : Type 0 where
   pub area : List ℕ
   pub answer : List ℕ
 
--- "Order: R1, R2, R3, status 1, request length, then each function's checks as listed."
+-- "Order: R1, R2, R3, status 1, request length,"
+abbrev pub gateChecks : Device → (area : List ℕ) (revision index : ℕ) (request answer : List ℕ) → List Check
+gateChecks d area revision index request answer =
+    R1Check answer ∷ eventChecks d area ++ (servedCheck revision index ∷ lengthCheck index request ∷ [])
+
+-- "then each function's checks as listed."
 abbrev pub callChecks : Device → (area : List ℕ) (revision index : ℕ) (request answer : List ℕ) → List Check
 callChecks d area revision index request answer =
-    R1Check answer
-    ∷ eventChecks d area
-    ++ (servedCheck revision index ∷ lengthCheck index request ∷ checks d (callOf (rowOf index .function) revision request))
+    gateChecks d area revision index request answer ++ checks d (callOf (rowOf index .function) revision request)
 
 abbrev pub reply : Verdict → ℕ → Reply
 reply v n = record { verdict = v; length = n }

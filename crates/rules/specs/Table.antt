@@ -64,7 +64,7 @@ abbrev pub servedCheck : (revision index : ℕ) → Check
 servedCheck revision index = not (served? revision (rowOf index)) && not (index =? 0) gives Status 1 0
 
 -- the request has the table's length
-abbrev pub fits? : Row → (request : List ℕ) → Bool
+unfoldable pub fits? : Row → (request : List ℕ) → Bool
 fits? r request = if r .more then r .request ≤? length request else length request =? r .request
 
 -- "status 3 | length or field wrong": the length. "[Send gives] 3 if the request is under 12 bytes" stands here too.

@@ -1,0 +1,4 @@
+pub mod Fits
+pub mod Joined
+pub mod Status
+pub mod Told

@@ -1,0 +1,97 @@
+// The module: one call, tick or power cycle on a device record and a lent staging area. These are the entry points; none asks anything of its caller.
+ghost use mathlib.Core.Path.{_≡_};
+ghost use mathlib.Core.List.{[]};
+ghost use Rattle.rules.specs.Record.{fresh};
+ghost use Rattle.rules.specs.Module.{callResult, tickResult, powerResult};
+ghost use Rattle.module.specs.Promise.{Promised};
+use rules::Device;
+use rules::Refusal;
+use rules::Reply;
+use rules::Verdict;
+
+// What comes back by value: the new record, and the reply.
+pub struct Outcome {
+    pub device: Device,
+    pub reply: Reply,
+}
+
+pub fn fresh() -> Device
+    ensures { λ r. ⌜ r ≡ fresh ⌝ }
+{
+    record::fresh()
+}
+
+// The checks in the page's order; then the answer and the change, or what the refusal leaves.
+pub fn call(
+    d: Device,
+    area: &mut [u8],
+    revision: u64,
+    function: u64,
+    request: &[u8],
+    answer: &mut [u8],
+) -> Outcome
+    ensures { λ r. ⌜ Promised (callResult d (now (area .entry)) revision function (now (request .entry)) (now (answer .entry))) r (now (area .exit)) (now (answer .exit)) ⌝ }
+{
+    let row = table::look_up(function);
+    let verdict = calls::checks::judge(d, area, revision, function, row, request, answer);
+    match verdict {
+        Verdict::Accepted => {
+            let served = row.function;
+            calls::answer::put_accepted(d, served, revision, answer);
+            let device = calls::change::change(d, area, served, revision, request);
+            result(device, verdict, row.answer)
+        }
+        Verdict::Refused(refusal) => match refusal {
+            Refusal::R { number: _ } => result(d, verdict, 0),
+            Refusal::Status { status, ext } => {
+                let length = calls::answer::status_length(status, row.answer);
+                calls::answer::put_status(answer, status, ext, length);
+                result(record::left(status, d), verdict, length)
+            }
+        },
+    }
+}
+
+fn result(device: Device, verdict: Verdict, length: usize) -> Outcome
+    ensures { λ r. ⌜ r ≡ record { device = device; reply = record { verdict = verdict; length = length } } ⌝ }
+{
+    Outcome {
+        device,
+        reply: Reply { verdict, length },
+    }
+}
+
+pub fn tick(d: Device, area: &[u8]) -> Outcome
+    ensures { λ r. ⌜ Promised (tickResult d (now (area .entry))) r (now (area .entry)) [] ⌝ }
+{
+    let verdict = record::judge_event(d, area);
+    match verdict {
+        Verdict::Accepted => {
+            let transfer = transfer::time::tick(d.transfer, area);
+            result(Device { transfer, ..d }, verdict, 0)
+        }
+        Verdict::Refused(_) => result(d, verdict, 0),
+    }
+}
+
+pub fn power(d: Device, area: &[u8]) -> Outcome
+    ensures { λ r. ⌜ Promised (powerResult d (now (area .entry))) r (now (area .entry)) [] ⌝ }
+{
+    let verdict = record::judge_event(d, area);
+    match verdict {
+        Verdict::Accepted => {
+            let transfer = transfer::time::power(d.transfer);
+            let security = security::change::power(d.security);
+            result(
+                Device {
+                    transfer,
+                    security,
+                    ..d
+                },
+                verdict,
+                0,
+            )
+        }
+        Verdict::Refused(_) => result(d, verdict, 0),
+    }
+}

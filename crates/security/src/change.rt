@@ -1,0 +1,57 @@
+// What an accepted Set Passphrase, Disable, Unlock and Freeze change, and what a power cycle does.
+ghost use mathlib.Core.Path.{_≡_};
+ghost use lib.ListN.{length};
+ghost use Rattle.rules.specs.Security.{setPassphraseChange, disableChange, unlockChange, freezeChange, securityPower};
+use rules::Security;
+
+pub fn set_passphrase(s: Security, new: &[u8]) -> Security
+    requires { ⌜ length (now new) ≡ 32 ⌝ }
+    ensures { λ r. ⌜ r ≡ setPassphraseChange s (now (new .entry)) ⌝ }
+{
+    let mut passphrase = [0u8; 32];
+    base::copy(&mut passphrase, new);
+    Security {
+        passphrase,
+        enabled: true,
+        attempts: 0,
+        ..s
+    }
+}
+
+pub fn disable(s: Security) -> Security
+    ensures { λ r. ⌜ r ≡ disableChange s ⌝ }
+{
+    Security {
+        enabled: false,
+        passphrase: [0u8; 32],
+        attempts: 0,
+        ..s
+    }
+}
+
+pub fn unlock(s: Security) -> Security
+    ensures { λ r. ⌜ r ≡ unlockChange s ⌝ }
+{
+    Security {
+        locked: false,
+        attempts: 0,
+        ..s
+    }
+}
+
+pub fn freeze(s: Security) -> Security
+    ensures { λ r. ⌜ r ≡ freezeChange s ⌝ }
+{
+    Security { frozen: true, ..s }
+}
+
+pub fn power(s: Security) -> Security
+    ensures { λ r. ⌜ r ≡ securityPower s ⌝ }
+{
+    Security {
+        frozen: false,
+        attempts: 0,
+        locked: s.enabled,
+        ..s
+    }
+}
