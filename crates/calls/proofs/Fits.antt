@@ -1,35 +1,23 @@
 -- Every row of the table: a request of its length has the bytes that its function reads, and its answer has 4 to 44 bytes.
 -- Assumes nothing.
-use mathlib.Core.Path.{_≡_, refl, sym, ap}
-use mathlib.Core.Bool.{Bool, true, false}
-use mathlib.Core.List.{List, [], _∷_}
+use mathlib.Core.Path.{_≡_}
+use mathlib.Core.Bool.{true}
+use mathlib.Core.List.{List}
 use Prim.Native.Nat.{ℕ, _≤_}
 use lib.Dec.{lit≤}
 use lib.ListN.{length}
 use borrow.Author.Tests.{eqb-true, leb-true}
-use Rattle.rules.specs.Tests.{if_then_else_, _=?_}
-use Rattle.rules.specs.Table.{table, unserved, lookUp, rowOf, fits?}
+use Rattle.rules.specs.Tests.{_=?_}
+use Rattle.rules.specs.Table.{table, rowOf, fits?}
 use Rattle.rules.specs.Refusals.{verdict}
 use Rattle.rules.specs.Module.{gateChecks}
 use Rattle.rules.specs.declared.Row.{Row}
 use Rattle.rules.specs.declared.Device.{Device}
 use Rattle.rules.specs.declared.Verdict.the-variants.{Accepted}
+use Rattle.rules.proofs.Rows.{looked-up}
 use Rattle.rules.proofs.Passed.{passed}
 use Rattle.rules.proofs.Accepted.{not-false}
 use Rattle.calls.specs.Fitting.{Fitting}
-
--- what holds of every row of a table, and of the row that it lacks, holds of the row that is looked up
-abbrev All : (Row → Type 0) → List (ℕ × Row) → Type 0
-All P [] = P unserved
-All P (place ∷ places) = P (place .1) × All P places
-
-looked-up : (P : Row → Type 0) (index : ℕ) (places : List (ℕ × Row)) → All P places → P (lookUp index places)
-looked-up P index [] all = all
-looked-up P index (place ∷ places) all = go (index =? place .0) (all .0) (looked-up P index places (all .1))
-  where
-    go : (found : Bool) → P (place .1) → P (lookUp index places) → P (if found then place .1 else lookUp index places)
-    go true here there = here
-    go false here there = there
 
 abbrev Fit : Row → Type 0
 Fit row = (request : List ℕ) → fits? row request ≡ true → Fitting (row .function) (length request)

@@ -15,3 +15,4 @@ pub mod Module
 pub mod Log
 pub mod Replay
 pub mod Cases
+pub mod Demand1

@@ -1,8 +1,16 @@
 // What an accepted Set Passphrase, Disable, Unlock and Freeze change, and what a power cycle does.
 ghost use mathlib.Core.Path.{_≡_};
 ghost use lib.ListN.{length};
+ghost use Rattle.rules.specs.With.{_with-attempts_};
 ghost use Rattle.rules.specs.Security.{setPassphraseChange, disableChange, unlockChange, freezeChange, securityPower};
 use rules::Security;
+
+// A passphrase that was right sets the attempts back.
+fn right(s: Security) -> Security
+    ensures { λ r. ⌜ r ≡ s with-attempts 0 ⌝ }
+{
+    Security { attempts: 0, ..s }
+}
 
 pub fn set_passphrase(s: Security, new: &[u8]) -> Security
     requires { ⌜ length (now new) ≡ 32 ⌝ }
@@ -10,10 +18,10 @@ pub fn set_passphrase(s: Security, new: &[u8]) -> Security
 {
     let mut passphrase = [0u8; 32];
     base::copy(&mut passphrase, new);
+    let s = right(s);
     Security {
         passphrase,
         enabled: true,
-        attempts: 0,
         ..s
     }
 }
@@ -21,10 +29,10 @@ pub fn set_passphrase(s: Security, new: &[u8]) -> Security
 pub fn disable(s: Security) -> Security
     ensures { λ r. ⌜ r ≡ disableChange s ⌝ }
 {
+    let s = right(s);
     Security {
         enabled: false,
         passphrase: [0u8; 32],
-        attempts: 0,
         ..s
     }
 }
@@ -32,11 +40,8 @@ pub fn disable(s: Security) -> Security
 pub fn unlock(s: Security) -> Security
     ensures { λ r. ⌜ r ≡ unlockChange s ⌝ }
 {
-    Security {
-        locked: false,
-        attempts: 0,
-        ..s
-    }
+    let s = right(s);
+    Security { locked: false, ..s }
 }
 
 pub fn freeze(s: Security) -> Security

@@ -1,23 +1,21 @@
 // The checks of Set Passphrase, Disable, Unlock and Freeze: the security state first, the passphrase last.
 ghost use mathlib.Core.Path.{_≡_};
 ghost use mathlib.Core.List.{[], _∷_};
-ghost use Rattle.rules.specs.Refusals.{verdict};
+ghost use Rattle.rules.specs.Refusals.{_gives_, verdict};
 ghost use Rattle.rules.specs.Security.{frozenCheck, setPassphraseChecks, disableChecks, unlockChecks};
 use rules::Refusal;
 use rules::Security;
 use rules::Verdict;
 
-pub fn judge_set_passphrase(s: Security, given: &[u8]) -> Verdict
-    ensures { λ r. ⌜ r ≡ verdict (setPassphraseChecks s (now (given .entry))) ⌝ }
+// The three checks of a call that carries a passphrase. Whether it is wrong is looked at last, so that a frozen module counts no attempts.
+fn judge_passphrase(s: Security, forbidden: bool, wrong: bool) -> Verdict
+    ensures { λ r. ⌜ r ≡ verdict (frozenCheck s ∷ (forbidden gives Refusal.Status 10 0) ∷ (wrong gives Refusal.Status 11 0) ∷ []) ⌝ }
 {
-    let same = base::same(given, &s.passphrase);
     let frozen = s.frozen | (s.attempts == 10);
-    let locked = s.locked;
-    let wrong = s.enabled & !same;
     if frozen {
         return Verdict::Refused(Refusal::Status { status: 10, ext: 0 });
     }
-    if locked {
+    if forbidden {
         return Verdict::Refused(Refusal::Status { status: 10, ext: 0 });
     }
     if wrong {
@@ -26,40 +24,25 @@ pub fn judge_set_passphrase(s: Security, given: &[u8]) -> Verdict
     Verdict::Accepted
 }
 
+pub fn judge_set_passphrase(s: Security, given: &[u8]) -> Verdict
+    ensures { λ r. ⌜ r ≡ verdict (setPassphraseChecks s (now (given .entry))) ⌝ }
+{
+    let same = base::same(given, &s.passphrase);
+    judge_passphrase(s, s.locked, s.enabled & !same)
+}
+
 pub fn judge_disable(s: Security, given: &[u8]) -> Verdict
     ensures { λ r. ⌜ r ≡ verdict (disableChecks s (now (given .entry))) ⌝ }
 {
     let same = base::same(given, &s.passphrase);
-    let frozen = s.frozen | (s.attempts == 10);
-    let forbidden = !(s.enabled & !s.locked);
-    if frozen {
-        return Verdict::Refused(Refusal::Status { status: 10, ext: 0 });
-    }
-    if forbidden {
-        return Verdict::Refused(Refusal::Status { status: 10, ext: 0 });
-    }
-    if !same {
-        return Verdict::Refused(Refusal::Status { status: 11, ext: 0 });
-    }
-    Verdict::Accepted
+    judge_passphrase(s, !(s.enabled & !s.locked), !same)
 }
 
 pub fn judge_unlock(s: Security, given: &[u8]) -> Verdict
     ensures { λ r. ⌜ r ≡ verdict (unlockChecks s (now (given .entry))) ⌝ }
 {
     let same = base::same(given, &s.passphrase);
-    let frozen = s.frozen | (s.attempts == 10);
-    let forbidden = !(s.enabled & s.locked);
-    if frozen {
-        return Verdict::Refused(Refusal::Status { status: 10, ext: 0 });
-    }
-    if forbidden {
-        return Verdict::Refused(Refusal::Status { status: 10, ext: 0 });
-    }
-    if !same {
-        return Verdict::Refused(Refusal::Status { status: 11, ext: 0 });
-    }
-    Verdict::Accepted
+    judge_passphrase(s, !(s.enabled & s.locked), !same)
 }
 
 pub fn judge_freeze(s: Security) -> Verdict

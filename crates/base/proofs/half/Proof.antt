@@ -1,3 +1,5 @@
+-- `base::half` meets its contract. It is the number in a part of two bytes, which fits 16 bits.
+-- Assumes nothing.
 use mathlib.Core.Path.{_≡_, _∙_, ap}
 use native.Mathlib.Omega.{arith}
 use native.Mathlib.Nat.{add-sub-cancel-left}
@@ -8,42 +10,32 @@ use Rattle.base.proofs.Le.{numberAt-below}
 use borrow.Author.Needs.{needs}
 use Rattle.base.proofs.half.Statement.{statement}
 use Rattle.base.proofs.half.Tie as tie
-use Rattle.base.proofs.half.Reads as reads
-use Rattle.base.proofs.half.Lts as lts
-use Rattle.base.proofs.number.Reads as number-reads
 
 part : (c : tie.After-number) → c .number .result ≡ numberAt 2 (c .before .before .before .args .at) (c .before .before .before .args .s .now)
 part c =
     let a = c .before .before .before .args in
     c .number .ensures ∙ ap (λ (k : ℕ). ofLe (take k (drop a.at a.s.now))) (add-sub-cancel-left a.at 2)
 
--- src/lib.rt:106:13
 add-e : tie.Need-add-e
 add-e c = search needs
 
--- src/lib.rt:107:12
 sub-number : tie.Need-sub-number
 sub-number c = search needs
 
--- src/lib.rt:107:12
 part-number-start : tie.Need-part-number-start
 part-number-start c = search needs
 
--- src/lib.rt:107:12
 part-number-end : tie.Need-part-number-end
 part-number-end c = search needs
 
--- src/lib.rt:107:5
 number-requires : tie.Need-number-requires
 number-requires c κs = search needs
 
--- src/lib.rt:107:5
 cast-result : tie.Need-cast-result
 cast-result c =
     let a = c .before .before .before .args in
     omega (arith, part c, numberAt-below 2 a.at a.s.now (c .before .before .shared-slice-known .given))
 
--- src/lib.rt:102:1
 returns : tie.Need-returns
 returns c = part c
 

@@ -1,17 +1,15 @@
+-- `base::number` meets its contract. Going down from the end, n is the number that the bytes from i on hold.
+-- Assumes nothing.
 use borrow.Author.Needs.{needs}
-use mathlib.Core.Path.{_≡_, refl, sym, _∙_, ap}
-use mathlib.Core.List.{_++_}
-use Prim.Native.Nat.{ℕ, _≤_, _<_, _-_, _+_, _^_}
+use mathlib.Core.Path.{_≡_, sym, ap}
+use Prim.Native.Nat.{_≤_, _-_}
 use native.Mathlib.Omega.{arith}
-use lib.ListN.{length, drop, take, getD, length-drop, length-set, drop-of-length-le}
-use lib.Seq.{take-length, drop-length}
+use lib.ListN.{length, drop, length-drop}
+use lib.Seq.{drop-length}
 use Rattle.rules.specs.Bytes.{ofLe}
 use Rattle.base.proofs.Le.{number-on, ofLe-fits, bytes-drop}
 use Rattle.base.proofs.number.Statement.{statement}
 use Rattle.base.proofs.number.Tie as tie
-use Rattle.base.proofs.number.Reads as reads
-use Rattle.base.proofs.number.Lts as lts
-use Rattle.base.proofs.wide.Reads as wide-reads
 
 abbrev Inv-loop : tie.InvT-loop
 Inv-loop s n₀ i₀ n i = (i ≤ length s) × (n ≡ ofLe (drop i s))
@@ -19,48 +17,39 @@ Inv-loop s n₀ i₀ n i = (i ≤ length s) × (n ≡ ofLe (drop i s))
 abbrev μ-loop : tie.MeasureT-loop
 μ-loop s n₀ i₀ n i = i
 
--- src/lib.rt:45:5
 loop-holds : tie.Need-loop-holds Inv-loop μ-loop
 loop-holds c = (search needs, sym (ap ofLe (drop-length (c .before .args .s .now))))
 
--- src/lib.rt:46:9
 sub-i : tie.Need-sub-i Inv-loop μ-loop
 sub-i c = search needs
 
--- src/lib.rt:47:13
 mul-n : tie.Need-mul-n Inv-loop μ-loop
 mul-n c =
     let s = c .before .before .before .args .s .now in
     let i = c .before .loop .i in
     omega (arith, ofLe-fits (drop i s) 7 (bytes-drop s i (c .before .before .shared-slice-known .given)) (simp length-drop (omega arith)))
 
--- src/lib.rt:47:28
 shared-slice-read-wide : tie.Need-shared-slice-read-wide Inv-loop μ-loop
 shared-slice-read-wide c = search needs
 
--- src/lib.rt:47:23
 wide-requires : tie.Need-wide-requires Inv-loop μ-loop
 wide-requires c κs = search needs
 
--- src/lib.rt:47:13
 add-n : tie.Need-add-n Inv-loop μ-loop
 add-n c =
     let s = c .before .before .before .before .before .args .s .now in
     let i = c .before .before .before .loop .i in
     omega (arith, c .wide .ensures, c .before .before .before .before .shared-slice-known .given (i - 1), ofLe-fits (drop i s) 7 (bytes-drop s i (c .before .before .before .before .shared-slice-known .given)) (simp length-drop (omega arith)))
 
--- src/lib.rt:45:5
 loop-less : tie.Need-loop-less Inv-loop μ-loop
 loop-less c = search needs
 
--- src/lib.rt:45:5
 loop-again : tie.Need-loop-again Inv-loop μ-loop
 loop-again c =
     let k = c .before .before in
     let s = k .before .before .before .args .s .now in
     (search needs, number-on s _ _ _ k.loop-test.taken (omega arith) (k .before .loop .inv .1) (c .wide .ensures))
 
--- src/lib.rt:39:1
 returns : tie.Need-returns Inv-loop μ-loop
 returns c =
     let at : c .before .loop .i ≡ 0 = omega arith in

@@ -1,17 +1,16 @@
+-- `base::put` meets its contract. So far, the front with what is left of the number is the whole number.
+-- Assumes nothing.
 use native.Mathlib.Nat.{sub-zero}
 use borrow.Author.Needs.{needs}
-use mathlib.Core.Path.{_≡_, refl, sym, _∙_, ap}
+use mathlib.Core.Path.{_≡_, refl, ap}
 use mathlib.Core.List.{_++_}
-use Prim.Native.Nat.{ℕ, _≤_, _<_, _-_, _+_, _^_}
+use Prim.Native.Nat.{_≤_, _-_, _+_}
 use native.Mathlib.Omega.{arith}
-use lib.ListN.{length, drop, take, getD, length-set, drop-of-length-le}
-use lib.Seq.{take-length, drop-length}
+use lib.ListN.{length, take, length-set}
 use Rattle.rules.specs.Bytes.{le}
 use Rattle.base.proofs.Le.{put-on, put-end}
 use Rattle.base.proofs.put.Statement.{statement}
 use Rattle.base.proofs.put.Tie as tie
-use Rattle.base.proofs.put.Reads as reads
-use Rattle.base.proofs.put.Lts as lts
 
 abbrev Inv-loop : tie.InvT-loop
 Inv-loop out₀ n m₀ i₀ out m i = (i ≤ length out₀) × (length out ≡ length out₀) × (take i out ++ le (length out₀ - i) m ≡ le (length out₀) n)
@@ -19,35 +18,27 @@ Inv-loop out₀ n m₀ i₀ out m i = (i ≤ length out₀) × (length out ≡ l
 abbrev μ-loop : tie.MeasureT-loop
 μ-loop out₀ n m₀ i₀ out m i = length out₀ - i
 
--- src/lib.rt:64:5
 loop-holds : tie.Need-loop-holds Inv-loop μ-loop
 loop-holds c = (search needs, refl, ap (λ k. le k (c .args .n)) (sub-zero (length (c .args .out .now))))
 
--- src/lib.rt:65:18
 cast-out : tie.Need-cast-out Inv-loop μ-loop
 cast-out c = search needs
 
--- src/lib.rt:65:9
 slice-write-out : tie.Need-slice-write-out Inv-loop μ-loop
 slice-write-out c = search needs
 
--- src/lib.rt:67:9
 add-i : tie.Need-add-i Inv-loop μ-loop
 add-i c = search needs
 
--- src/lib.rt:64:5
 loop-less : tie.Need-loop-less Inv-loop μ-loop
 loop-less c = search needs
 
--- src/lib.rt:64:5
 loop-again : tie.Need-loop-again Inv-loop μ-loop
 loop-again c = (search needs, simp length-set (omega arith), put-on _ (c .before .loop .i) (length (c .before .before .args .out .now)) _ _ (c .before .loop .inv .1) (c .before .loop .inv .2) (omega arith))
 
--- src/lib.rt:59:1
 same-length : tie.Need-same-length Inv-loop μ-loop
 same-length c = search needs
 
--- src/lib.rt:59:1
 returns : tie.Need-returns Inv-loop μ-loop
 returns c = put-end _ (c .before .loop .i) (length (c .before .before .args .out .now)) _ _ (c .before .loop .inv .1) (c .before .loop .inv .2) (omega arith)
 

@@ -1,3 +1,5 @@
+-- `module::call` meets its contract. The verdict settles the result of the definition (proofs/Outcomes.antt).
+-- Assumes nothing.
 use native.Mathlib.Omega.{arith}
 use mathlib.Core.Path.{sym, _∙_, ap}
 use Rattle.rules.specs.declared.Verdict.the-variants.{Accepted, Refused}
@@ -6,30 +8,16 @@ use Rattle.module.proofs.Outcomes.{as-accepted, as-R, as-status, room, 
 use borrow.Author.Needs.{needs}
 use Rattle.module.proofs.call.Statement.{statement}
 use Rattle.module.proofs.call.Tie as tie
-use Rattle.module.proofs.call.Reads as reads
-use Rattle.module.proofs.call.Lts as lts
-use Rattle.calls.proofs.answer.put_accepted.Reads as put-accepted-reads
-use Rattle.calls.proofs.answer.put_status.Reads as put-status-reads
-use Rattle.calls.proofs.answer.status_length.Reads as status-length-reads
-use Rattle.calls.proofs.change.change.Reads as change-reads
-use Rattle.calls.proofs.checks.judge.Reads as judge-reads
-use Rattle.module.proofs.result.Reads as result-reads
-use Rattle.record.proofs.left.Reads as left-reads
-use Rattle.table.proofs.look_up.Reads as look-up-reads
 
--- src/lib.rt:35:9
 look-up-requires : tie.Need-look-up-requires
 look-up-requires c κs = search needs
 
--- src/lib.rt:36:9
 judge-requires : tie.Need-judge-requires
 judge-requires c κs = search needs
 
--- src/lib.rt:39:17
 enum-told : tie.Need-enum-told
 enum-told c = search needs
 
--- src/lib.rt:40:13
 put-accepted-requires : tie.Need-put-accepted-requires
 put-accepted-requires c κs =
     let a = c .before .before .before .before .before .before .before .before .before .before .args in
@@ -37,7 +25,6 @@ put-accepted-requires c κs =
     let judged = c .before .before .before .judge .ensures in
     room (a .d) (a .area .now) (a .revision) (a .function) (a .request .now) (a .answer .now) (row .result) (row .ensures) Accepted (sym judged ∙ c .before .enum-told .given .1) tt
 
--- src/lib.rt:41:17
 change-requires : tie.Need-change-requires
 change-requires c κs =
     let a = c .before .before .before .before .before .before .before .before .before .before .before .before .before .before .args in
@@ -46,31 +33,24 @@ change-requires c κs =
     let e = sym judged ∙ c .before .before .before .before .before .enum-told .given .1 in
     (sound (a .d) (a .area .now) (a .revision) (a .function) (a .request .now) (a .answer .now) (row .result) (row .ensures) Accepted e tt .whole, (fits (a .d) (a .area .now) (a .revision) (a .function) (a .request .now) (a .answer .now) (row .result) (row .ensures) e, own-checks (a .d) (a .area .now) (a .revision) (a .function) (a .request .now) (a .answer .now) (row .result) (row .ensures) e))
 
--- src/lib.rt:42:13
 result-requires : tie.Need-result-requires
 result-requires c κs = search needs
 
--- src/lib.rt:44:26
 enum-known-verdict : tie.Need-enum-known-verdict
 enum-known-verdict c = search needs
 
--- src/lib.rt:45:41
 enum-told-2 : tie.Need-enum-told-2
 enum-told-2 c = search needs
 
--- src/lib.rt:45:41
 result-requires-2 : tie.Need-result-requires-2
 result-requires-2 c κs = search needs
 
--- src/lib.rt:46:31
 enum-known-refusal : tie.Need-enum-known-refusal
 enum-known-refusal c = search needs
 
--- src/lib.rt:47:21
 status-length-requires : tie.Need-status-length-requires
 status-length-requires c κs = search needs
 
--- src/lib.rt:48:17
 put-status-requires : tie.Need-put-status-requires
 put-status-requires c κs =
     let a = c .before .before .before .before .before .before .before .before .before .before .before .before .before .before .before .args in
@@ -81,7 +61,6 @@ put-status-requires c κs =
     let r = room (a .d) (a .area .now) (a .revision) (a .function) (a .request .now) (a .answer .now) (row .result) (row .ensures) _ e tt in
     rw (c .before .status-length .ensures) (h .0, omega arith)
 
--- src/lib.rt:49:24
 left-requires : tie.Need-left-requires
 left-requires c κs =
     let a = c .before .before .before .before .before .before .before .before .before .before .before .before .before .before .before .before .before .before .args in
@@ -90,19 +69,15 @@ left-requires c κs =
     let e = sym judged ∙ c .before .before .before .before .before .before .before .before .before .verdict .given .1 ∙ ap Refused (c .before .before .before .before .before .before .refusal .given .1) in
     attempts-most (a .d) (sound (a .d) (a .area .now) (a .revision) (a .function) (a .request .now) (a .answer .now) (row .result) (row .ensures) _ e tt .sound)
 
--- src/lib.rt:49:17
 result-requires-3 : tie.Need-result-requires-3
 result-requires-3 c κs = search needs
 
--- src/lib.rt:25:1
 same-length : tie.Need-same-length
 same-length c = search needs
 
--- src/lib.rt:25:1
 same-length-2 : tie.Need-same-length-2
 same-length-2 c = search needs
 
--- src/lib.rt:25:1
 returns : tie.Need-returns
 returns c =
     let a = c .before .before .before .before .before .before .before .before .before .before .before .before .before .before .before .before .before .before .args in
@@ -112,15 +87,12 @@ returns c =
     as-accepted (a .d) (a .area .now) (a .revision) (a .function) (a .request .now) (a .answer .now) (row .result) (row .ensures) judged (c .before .before .before .before .before .before .before .before .before .enum-told .given .1) (c .result .ensures) (changed .0) (changed .1)
     (c .before .before .before .before .before .before .before .put-accepted .ensures (a .request .now))
 
--- src/lib.rt:25:1
 same-length-3 : tie.Need-same-length-3
 same-length-3 c = search needs
 
--- src/lib.rt:25:1
 same-length-4 : tie.Need-same-length-4
 same-length-4 c = search needs
 
--- src/lib.rt:25:1
 returns-2 : tie.Need-returns-2
 returns-2 c =
     let a = c .before .before .before .before .before .before .before .before .before .before .before .before .before .args in
@@ -128,15 +100,12 @@ returns-2 c =
     let judged = c .before .before .before .before .before .before .judge .ensures in
     as-R (a .d) (a .area .now) (a .revision) (a .function) (a .request .now) (a .answer .now) (row .result) (row .ensures) _ (sym (c .before .before .before .before .verdict .given .1) ∙ judged) (ap Refused (c .before .enum-told2 .given .1)) (c .result2 .ensures)
 
--- src/lib.rt:25:1
 same-length-5 : tie.Need-same-length-5
 same-length-5 c = search needs
 
--- src/lib.rt:25:1
 same-length-6 : tie.Need-same-length-6
 same-length-6 c = search needs
 
--- src/lib.rt:25:1
 returns-3 : tie.Need-returns-3
 returns-3 c =
     let a = c .before .before .before .before .before .before .before .before .before .before .before .before .before .before .before .before .before .before .before .before .args in

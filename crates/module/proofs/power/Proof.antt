@@ -1,4 +1,5 @@
-use mathlib.Core.Path.{sym, _∙_, ap}
+-- `module::power` meets its contract. The verdict settles the result of the definition (proofs/Outcomes.antt).
+-- Assumes nothing.
 use Rattle.rules.specs.With.{_with-transfer_, _with-security_}
 use Rattle.rules.specs.Transfer.{transferPower}
 use Rattle.rules.specs.Security.{securityPower}
@@ -8,46 +9,32 @@ use Rattle.module.proofs.Outcomes.{as-changed, as-left}
 use borrow.Author.Needs.{needs}
 use Rattle.module.proofs.power.Statement.{statement}
 use Rattle.module.proofs.power.Tie as tie
-use Rattle.module.proofs.power.Reads as reads
-use Rattle.module.proofs.power.Lts as lts
-use Rattle.module.proofs.result.Reads as result-reads
-use Rattle.record.proofs.judge_event.Reads as judge-event-reads
-use Rattle.security.proofs.change.power.Reads as change-power-reads
-use Rattle.transfer.proofs.time.power.Reads as time-power-reads
 
 -- the record after a power cycle
 abbrev powered : Device → Device
 powered d = d with-transfer (transferPower (d .transfer)) with-security (securityPower (d .security))
 
--- src/lib.rt:80:9
 judge-event-requires : tie.Need-judge-event-requires
 judge-event-requires c κs = search needs
 
--- src/lib.rt:83:17
 enum-told : tie.Need-enum-told
 enum-told c = search needs
 
--- src/lib.rt:83:17
 power-requires : tie.Need-power-requires
 power-requires c κs = search needs
 
--- src/lib.rt:84:17
 power-requires-2 : tie.Need-power-requires-2
 power-requires-2 c κs = search needs
 
--- src/lib.rt:85:13
 result-requires : tie.Need-result-requires
 result-requires c κs = search needs
 
--- src/lib.rt:95:32
 enum-told-2 : tie.Need-enum-told-2
 enum-told-2 c = search needs
 
--- src/lib.rt:95:32
 result-requires-2 : tie.Need-result-requires-2
 result-requires-2 c κs = search needs
 
--- src/lib.rt:77:1
 returns : tie.Need-returns
 unfolding powerResult
 returns c =
@@ -55,7 +42,6 @@ returns c =
     as-changed (powered (a .d)) (a .d) (a .area .now) (c .before .before .before .before .before .before .judge-event .ensures) (c .before .before .before .before .enum-told .given .1) (c .result .ensures)
     (λ i. a .d with-transfer (c .before .before .before .power .ensures i) with-security (c .before .before .power2 .ensures i))
 
--- src/lib.rt:77:1
 returns-2 : tie.Need-returns-2
 unfolding powerResult
 returns-2 c =

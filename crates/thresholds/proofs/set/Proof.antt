@@ -1,30 +1,23 @@
+-- `thresholds::set` meets its contract. A mask of three bits is the remainder by 8.
+-- Assumes nothing.
 use lib.Bits.{and-mask}
 use Rattle.rules.specs.Bytes.{numberAt}
 use borrow.Author.Needs.{needs}
 use Rattle.thresholds.proofs.set.Statement.{statement}
 use Rattle.thresholds.proofs.set.Tie as tie
-use Rattle.thresholds.proofs.set.Reads as reads
-use Rattle.thresholds.proofs.set.Lts as lts
-use Rattle.base.proofs.byte.Reads as byte-reads
-use Rattle.base.proofs.half.Reads as half-reads
 
--- src/lib.rt:31:17
 half-requires : tie.Need-half-requires
 half-requires c κs = search needs
 
--- src/lib.rt:32:16
 byte-requires : tie.Need-byte-requires
 byte-requires c κs = search needs
 
--- src/lib.rt:33:16
 half-requires-2 : tie.Need-half-requires-2
 half-requires-2 c κs = search needs
 
--- src/lib.rt:34:21
 half-requires-3 : tie.Need-half-requires-3
 half-requires-3 c κs = search needs
 
--- src/lib.rt:26:1
 returns : tie.Need-returns
 returns c =
     let q = c .before .before .before .before .before .args .request .now in

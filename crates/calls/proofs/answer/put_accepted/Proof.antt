@@ -1,3 +1,5 @@
+-- `calls::put_accepted` meets its contract. Each arm writes the answer of the function that it names.
+-- Assumes nothing.
 use mathlib.Core.Path.{_∙_, ap}
 use Prim.Native.Nat.{ℕ}
 use Rattle.rules.specs.Bytes.{le, splice}
@@ -5,273 +7,205 @@ use Rattle.calls.proofs.Told.{answered}
 use borrow.Author.Needs.{needs}
 use Rattle.calls.proofs.answer.put_accepted.Statement.{statement}
 use Rattle.calls.proofs.answer.put_accepted.Tie as tie
-use Rattle.calls.proofs.answer.put_accepted.Reads as reads
-use Rattle.calls.proofs.answer.put_accepted.Lts as lts
-use Rattle.base.proofs.put_at.Reads as put-at-reads
-use Rattle.calls.proofs.answer.put_status.Reads as put-status-reads
-use Rattle.security.proofs.answer.put_state.Reads as put-state-reads
-use Rattle.table.proofs.mask.Reads as mask-reads
-use Rattle.thresholds.proofs.put_answer.Reads as put-answer-reads
-use Rattle.transfer.proofs.answer.put_info.Reads as put-info-reads
-use Rattle.transfer.proofs.answer.put_queried.Reads as put-queried-reads
-use Rattle.transfer.proofs.answer.put_started.Reads as put-started-reads
 
--- src/answer.rt:29:40
 enum-told : tie.Need-enum-told
 enum-told c = search needs
 
--- src/answer.rt:29:54
 mask-requires : tie.Need-mask-requires
 mask-requires c κs = search needs
 
--- src/answer.rt:29:54
 cast-put-at : tie.Need-cast-put-at
 cast-put-at c = search needs
 
--- src/answer.rt:29:27
 put-at-requires : tie.Need-put-at-requires
 put-at-requires c κs = search needs
 
--- src/answer.rt:30:72
 enum-told-2 : tie.Need-enum-told-2
 enum-told-2 c = search needs
 
--- src/answer.rt:30:35
 put-answer-requires : tie.Need-put-answer-requires
 put-answer-requires c κs = search needs
 
--- src/answer.rt:31:71
 enum-told-3 : tie.Need-enum-told-3
 enum-told-3 c = search needs
 
--- src/answer.rt:31:32
 put-info-requires : tie.Need-put-info-requires
 put-info-requires c κs = search needs
 
--- src/answer.rt:32:70
 enum-told-4 : tie.Need-enum-told-4
 enum-told-4 c = search needs
 
--- src/answer.rt:32:28
 put-started-requires : tie.Need-put-started-requires
 put-started-requires c κs = search needs
 
--- src/answer.rt:33:38
 enum-told-5 : tie.Need-enum-told-5
 enum-told-5 c = search needs
 
--- src/answer.rt:33:27
 put-status-requires : tie.Need-put-status-requires
 put-status-requires c κs = search needs
 
--- src/answer.rt:34:40
 enum-told-6 : tie.Need-enum-told-6
 enum-told-6 c = search needs
 
--- src/answer.rt:34:29
 put-status-requires-2 : tie.Need-put-status-requires-2
 put-status-requires-2 c κs = search needs
 
--- src/answer.rt:35:70
 enum-told-7 : tie.Need-enum-told-7
 enum-told-7 c = search needs
 
--- src/answer.rt:35:28
 put-queried-requires : tie.Need-put-queried-requires
 put-queried-requires c κs = search needs
 
--- src/answer.rt:36:46
 enum-told-8 : tie.Need-enum-told-8
 enum-told-8 c = search needs
 
--- src/answer.rt:36:35
 put-status-requires-3 : tie.Need-put-status-requires-3
 put-status-requires-3 c κs = search needs
 
--- src/answer.rt:37:79
 enum-told-9 : tie.Need-enum-told-9
 enum-told-9 c = search needs
 
--- src/answer.rt:37:39
 put-state-requires : tie.Need-put-state-requires
 put-state-requires c κs = search needs
 
--- src/answer.rt:38:47
 enum-told-10 : tie.Need-enum-told-10
 enum-told-10 c = search needs
 
--- src/answer.rt:38:36
 put-status-requires-4 : tie.Need-put-status-requires-4
 put-status-requires-4 c κs = search needs
 
--- src/answer.rt:39:41
 enum-told-11 : tie.Need-enum-told-11
 enum-told-11 c = search needs
 
--- src/answer.rt:39:30
 put-status-requires-5 : tie.Need-put-status-requires-5
 put-status-requires-5 c κs = search needs
 
--- src/answer.rt:40:40
 enum-told-12 : tie.Need-enum-told-12
 enum-told-12 c = search needs
 
--- src/answer.rt:40:29
 put-status-requires-6 : tie.Need-put-status-requires-6
 put-status-requires-6 c κs = search needs
 
--- src/answer.rt:41:40
 enum-told-13 : tie.Need-enum-told-13
 enum-told-13 c = search needs
 
--- src/answer.rt:41:29
 put-status-requires-7 : tie.Need-put-status-requires-7
 put-status-requires-7 c κs = search needs
 
--- src/answer.rt:42:42
 enum-told-14 : tie.Need-enum-told-14
 enum-told-14 c = search needs
 
--- src/answer.rt:42:31
 put-status-requires-8 : tie.Need-put-status-requires-8
 put-status-requires-8 c κs = search needs
 
--- src/answer.rt:24:1
 same-length : tie.Need-same-length
 same-length c = search needs
 
--- src/answer.rt:24:1
 returns : tie.Need-returns
 returns c = λ request.
     let a = c .before .before .before .before .before .before .before .before .args in
     answered (a .d) (a .revision) request (a .answer .now) (c .before .before .before .before .before .enum-told .given .1)
     (c .before .before .put-at .ensures ∙ ap (λ (n : ℕ). splice 0 (le 4 n) (a .answer .now)) (c .before .before .before .mask .ensures))
 
--- src/answer.rt:24:1
 same-length-2 : tie.Need-same-length-2
 same-length-2 c = search needs
 
--- src/answer.rt:24:1
 returns-2 : tie.Need-returns-2
 returns-2 c = λ request.
     let a = c .before .before .before .before .before .before .before .args in
     answered (a .d) (a .revision) request (a .answer .now) (c .before .before .before .before .enum-told2 .given .1) (c .before .before .put-answer .ensures)
 
--- src/answer.rt:24:1
 same-length-3 : tie.Need-same-length-3
 same-length-3 c = search needs
 
--- src/answer.rt:24:1
 returns-3 : tie.Need-returns-3
 returns-3 c = λ request.
     let a = c .before .before .before .before .before .before .before .args in
     answered (a .d) (a .revision) request (a .answer .now) (c .before .before .before .before .enum-told3 .given .1) (c .before .before .put-info .ensures)
 
--- src/answer.rt:24:1
 same-length-4 : tie.Need-same-length-4
 same-length-4 c = search needs
 
--- src/answer.rt:24:1
 returns-4 : tie.Need-returns-4
 returns-4 c = λ request.
     let a = c .before .before .before .before .before .before .before .args in
     answered (a .d) (a .revision) request (a .answer .now) (c .before .before .before .before .enum-told4 .given .1) (c .before .before .put-started .ensures)
 
--- src/answer.rt:24:1
 same-length-5 : tie.Need-same-length-5
 same-length-5 c = search needs
 
--- src/answer.rt:24:1
 returns-5 : tie.Need-returns-5
 returns-5 c = λ request.
     let a = c .before .before .before .before .before .before .before .args in
     answered (a .d) (a .revision) request (a .answer .now) (c .before .before .before .before .enum-told5 .given .1) (c .before .before .put-status .ensures)
 
--- src/answer.rt:24:1
 same-length-6 : tie.Need-same-length-6
 same-length-6 c = search needs
 
--- src/answer.rt:24:1
 returns-6 : tie.Need-returns-6
 returns-6 c = λ request.
     let a = c .before .before .before .before .before .before .before .args in
     answered (a .d) (a .revision) request (a .answer .now) (c .before .before .before .before .enum-told6 .given .1) (c .before .before .put-status2 .ensures)
 
--- src/answer.rt:24:1
 same-length-7 : tie.Need-same-length-7
 same-length-7 c = search needs
 
--- src/answer.rt:24:1
 returns-7 : tie.Need-returns-7
 returns-7 c = λ request.
     let a = c .before .before .before .before .before .before .before .args in
     answered (a .d) (a .revision) request (a .answer .now) (c .before .before .before .before .enum-told7 .given .1) (c .before .before .put-queried .ensures)
 
--- src/answer.rt:24:1
 same-length-8 : tie.Need-same-length-8
 same-length-8 c = search needs
 
--- src/answer.rt:24:1
 returns-8 : tie.Need-returns-8
 returns-8 c = λ request.
     let a = c .before .before .before .before .before .before .before .args in
     answered (a .d) (a .revision) request (a .answer .now) (c .before .before .before .before .enum-told8 .given .1) (c .before .before .put-status3 .ensures)
 
--- src/answer.rt:24:1
 same-length-9 : tie.Need-same-length-9
 same-length-9 c = search needs
 
--- src/answer.rt:24:1
 returns-9 : tie.Need-returns-9
 returns-9 c = λ request.
     let a = c .before .before .before .before .before .before .before .args in
     answered (a .d) (a .revision) request (a .answer .now) (c .before .before .before .before .enum-told9 .given .1) (c .before .before .put-state .ensures)
 
--- src/answer.rt:24:1
 same-length-10 : tie.Need-same-length-10
 same-length-10 c = search needs
 
--- src/answer.rt:24:1
 returns-10 : tie.Need-returns-10
 returns-10 c = λ request.
     let a = c .before .before .before .before .before .before .before .args in
     answered (a .d) (a .revision) request (a .answer .now) (c .before .before .before .before .enum-told10 .given .1) (c .before .before .put-status4 .ensures)
 
--- src/answer.rt:24:1
 same-length-11 : tie.Need-same-length-11
 same-length-11 c = search needs
 
--- src/answer.rt:24:1
 returns-11 : tie.Need-returns-11
 returns-11 c = λ request.
     let a = c .before .before .before .before .before .before .before .args in
     answered (a .d) (a .revision) request (a .answer .now) (c .before .before .before .before .enum-told11 .given .1) (c .before .before .put-status5 .ensures)
 
--- src/answer.rt:24:1
 same-length-12 : tie.Need-same-length-12
 same-length-12 c = search needs
 
--- src/answer.rt:24:1
 returns-12 : tie.Need-returns-12
 returns-12 c = λ request.
     let a = c .before .before .before .before .before .before .before .args in
     answered (a .d) (a .revision) request (a .answer .now) (c .before .before .before .before .enum-told12 .given .1) (c .before .before .put-status6 .ensures)
 
--- src/answer.rt:24:1
 same-length-13 : tie.Need-same-length-13
 same-length-13 c = search needs
 
--- src/answer.rt:24:1
 returns-13 : tie.Need-returns-13
 returns-13 c = λ request.
     let a = c .before .before .before .before .before .before .before .args in
     answered (a .d) (a .revision) request (a .answer .now) (c .before .before .before .before .enum-told13 .given .1) (c .before .before .put-status7 .ensures)
 
--- src/answer.rt:24:1
 same-length-14 : tie.Need-same-length-14
 same-length-14 c = search needs
 
--- src/answer.rt:24:1
 returns-14 : tie.Need-returns-14
 returns-14 c = λ request.
     let a = c .before .before .before .before .before .before .before .args in

@@ -1,33 +1,26 @@
+-- `calls::put_status` meets its contract. Three writes one after the other (proofs/Status.antt).
+-- Assumes nothing.
 use Prim.Native.Nat.{_-_}
 use Rattle.calls.proofs.Status.{status-written}
 use borrow.Author.Needs.{needs}
 use Rattle.calls.proofs.answer.put_status.Statement.{statement}
 use Rattle.calls.proofs.answer.put_status.Tie as tie
-use Rattle.calls.proofs.answer.put_status.Reads as reads
-use Rattle.calls.proofs.answer.put_status.Lts as lts
-use Rattle.base.proofs.put_at.Reads as put-at-reads
 
--- src/answer.rt:18:5
 put-at-requires : tie.Need-put-at-requires
 put-at-requires c κs = search needs
 
--- src/answer.rt:19:5
 put-at-requires-2 : tie.Need-put-at-requires-2
 put-at-requires-2 c κs = search needs
 
--- src/answer.rt:20:29
 sub-put-at : tie.Need-sub-put-at
 sub-put-at c = search needs
 
--- src/answer.rt:20:5
 put-at-requires-3 : tie.Need-put-at-requires-3
 put-at-requires-3 c κs = search needs
 
--- src/answer.rt:13:1
 same-length : tie.Need-same-length
 same-length c = search needs
 
--- src/answer.rt:13:1
 returns : tie.Need-returns
 returns c =
     let a = c .before .before .before .before .before .before .before .before .before .before .before .before .before .args in

@@ -1,13 +1,11 @@
+-- `calls::status_length` meets its contract. Status 1 alone has a length of its own.
+-- Assumes nothing.
 use Rattle.calls.proofs.answer.status_length.Statement.{statement}
 use Rattle.calls.proofs.answer.status_length.Tie as tie
-use Rattle.calls.proofs.answer.status_length.Reads as reads
-use Rattle.calls.proofs.answer.status_length.Lts as lts
 
--- src/answer.rt:18:9
 returns : tie.Need-returns
 returns c = simp (c .if1 .taken)
 
--- src/answer.rt:13:1
 returns-2 : tie.Need-returns-2
 returns-2 c = simp (c .if1 .left)
 

@@ -1,3 +1,5 @@
+-- `calls::change` meets its contract. Each arm changes the part that its function works on.
+-- Assumes nothing.
 use mathlib.Core.Path.{refl, _∙_, ap}
 use native.Mathlib.Omega.{arith}
 use lib.ListN.{length, length-drop}
@@ -11,197 +13,147 @@ use Rattle.calls.proofs.Told.{there, passed, changed}
 use borrow.Author.Needs.{needs}
 use Rattle.calls.proofs.change.change.Statement.{statement}
 use Rattle.calls.proofs.change.change.Tie as tie
-use Rattle.calls.proofs.change.change.Reads as reads
-use Rattle.calls.proofs.change.change.Lts as lts
-use Rattle.security.proofs.change.disable.Reads as disable-reads
-use Rattle.security.proofs.change.freeze.Reads as freeze-reads
-use Rattle.security.proofs.change.set_passphrase.Reads as set-passphrase-reads
-use Rattle.security.proofs.change.unlock.Reads as unlock-reads
-use Rattle.thresholds.proofs.set.Reads as set-reads
-use Rattle.transfer.proofs.change.finish.Reads as finish-reads
-use Rattle.transfer.proofs.change.send.Reads as send-reads
-use Rattle.transfer.proofs.change.start.Reads as start-reads
 
--- src/change.rt:25:27
 enum-told : tie.Need-enum-told
 enum-told c = search needs
 
--- src/change.rt:26:35
 enum-told-2 : tie.Need-enum-told-2
 enum-told-2 c = search needs
 
--- src/change.rt:27:32
 enum-told-3 : tie.Need-enum-told-3
 enum-told-3 c = search needs
 
--- src/change.rt:29:23
 enum-told-4 : tie.Need-enum-told-4
 enum-told-4 c = search needs
 
--- src/change.rt:29:23
 start-requires : tie.Need-start-requires
 start-requires c κs = let k = c .before .before .before .before in passed (k .args .d) (k .args .revision) (k .args .request .now) (c .enum-told4 .given .1) (k .pre .1 .1)
 
--- src/change.rt:33:58
 enum-told-5 : tie.Need-enum-told-5
 enum-told-5 c = search needs
 
--- src/change.rt:33:23
 send-requires : tie.Need-send-requires
 send-requires c κs =
     let k = c .before .before .before .before .before in
     (k .pre .0, (there (length (k .args .request .now)) (c .before .enum-told5 .given .1) (k .pre .1 .0), passed (k .args .d) (k .args .revision) (k .args .request .now) (c .before .enum-told5 .given .1) (k .pre .1 .1)))
 
--- src/change.rt:37:23
 enum-told-6 : tie.Need-enum-told-6
 enum-told-6 c = search needs
 
--- src/change.rt:37:23
 finish-requires : tie.Need-finish-requires
 finish-requires c κs = let k = c .before .before .before .before in there (length (k .args .request .now)) (c .enum-told6 .given .1) (k .pre .1 .0)
 
--- src/change.rt:40:28
 enum-told-7 : tie.Need-enum-told-7
 enum-told-7 c = search needs
 
--- src/change.rt:42:25
 enum-told-8 : tie.Need-enum-told-8
 enum-told-8 c = search needs
 
--- src/change.rt:42:25
 set-requires : tie.Need-set-requires
 set-requires c κs = let k = c .before .before .before .before in there (length (k .args .request .now)) (c .enum-told8 .given .1) (k .pre .1 .0)
 
--- src/change.rt:45:39
 enum-told-9 : tie.Need-enum-told-9
 enum-told-9 c = search needs
 
--- src/change.rt:47:68
 enum-told-10 : tie.Need-enum-told-10
 enum-told-10 c = search needs
 
--- src/change.rt:47:68
 sub-set-passphrase : tie.Need-sub-set-passphrase
 sub-set-passphrase c = let k = c .before .before .before .before in let h = there (length (k .args .request .now)) (c .enum-told10 .given .1) (k .pre .1 .0) in omega arith
 
--- src/change.rt:47:68
 part-set-passphrase-start : tie.Need-part-set-passphrase-start
 part-set-passphrase-start c = let k = c .before .before .before .before in let h = there (length (k .args .request .now)) (c .enum-told10 .given .1) (k .pre .1 .0) in omega arith
 
--- src/change.rt:47:68
 part-set-passphrase-end : tie.Need-part-set-passphrase-end
 part-set-passphrase-end c = search needs
 
--- src/change.rt:47:23
 set-passphrase-requires : tie.Need-set-passphrase-requires
 set-passphrase-requires c κs =
     let k = c .before .before .before .before .before in
     let h = there (length (k .args .request .now)) (c .before .enum-told10 .given .1) (k .pre .1 .0) in
     rw (rest 32 (k .args .request .now), length-drop) (omega arith)
 
--- src/change.rt:51:23
 enum-told-11 : tie.Need-enum-told-11
 enum-told-11 c = search needs
 
--- src/change.rt:51:23
 disable-requires : tie.Need-disable-requires
 disable-requires c κs = search needs
 
--- src/change.rt:55:23
 enum-told-12 : tie.Need-enum-told-12
 enum-told-12 c = search needs
 
--- src/change.rt:55:23
 unlock-requires : tie.Need-unlock-requires
 unlock-requires c κs = search needs
 
--- src/change.rt:59:23
 enum-told-13 : tie.Need-enum-told-13
 enum-told-13 c = search needs
 
--- src/change.rt:59:23
 freeze-requires : tie.Need-freeze-requires
 freeze-requires c κs = search needs
 
--- src/change.rt:62:31
 enum-told-14 : tie.Need-enum-told-14
 enum-told-14 c = search needs
 
--- src/change.rt:11:1
 returns : tie.Need-returns
 returns c = let a = c .before .before .before .before .args in changed (a .d) (a .revision) (a .request .now) (a .area .now) (c .enum-told .given .1) refl refl
 
--- src/change.rt:11:1
 returns-2 : tie.Need-returns-2
 returns-2 c = let a = c .before .before .before .before .args in changed (a .d) (a .revision) (a .request .now) (a .area .now) (c .enum-told2 .given .1) refl refl
 
--- src/change.rt:11:1
 returns-3 : tie.Need-returns-3
 returns-3 c = let a = c .before .before .before .before .args in changed (a .d) (a .revision) (a .request .now) (a .area .now) (c .enum-told3 .given .1) refl refl
 
--- src/change.rt:11:1
 returns-4 : tie.Need-returns-4
 returns-4 c =
     let a = c .before .before .before .before .before .before .before .args in
     changed (a .d) (a .revision) (a .request .now) (a .area .now) (c .before .before .before .enum-told4 .given .1) (ap (λ (x : Transfer). a .d with-transfer x) (c .before .before .start .ensures)) refl
 
--- src/change.rt:11:1
 same-length : tie.Need-same-length
 same-length c = search needs
 
--- src/change.rt:11:1
 returns-5 : tie.Need-returns-5
 returns-5 c =
     let a = c .before .before .before .before .before .before .before .before .before .before .args in
     let s = c .before .before .before .before in
     changed (a .d) (a .revision) (a .request .now) (a .area .now) (s .before .before .enum-told5 .given .1) (ap (λ (x : Transfer). a .d with-transfer x) (s .send .ensures .0)) (s .send .ensures .1)
 
--- src/change.rt:11:1
 returns-6 : tie.Need-returns-6
 returns-6 c =
     let a = c .before .before .before .before .before .before .before .args in
     changed (a .d) (a .revision) (a .request .now) (a .area .now) (c .before .before .before .enum-told6 .given .1) (ap (λ (x : Transfer). a .d with-transfer x) (c .before .before .finish .ensures)) refl
 
--- src/change.rt:11:1
 returns-7 : tie.Need-returns-7
 returns-7 c = let a = c .before .before .before .before .args in changed (a .d) (a .revision) (a .request .now) (a .area .now) (c .enum-told7 .given .1) refl refl
 
--- src/change.rt:11:1
 returns-8 : tie.Need-returns-8
 returns-8 c =
     let a = c .before .before .before .before .before .before .before .args in
     changed (a .d) (a .revision) (a .request .now) (a .area .now) (c .before .before .before .enum-told8 .given .1) (ap (λ (x : Thresholds). a .d with-thresholds x) (c .before .before .set .ensures)) refl
 
--- src/change.rt:11:1
 returns-9 : tie.Need-returns-9
 returns-9 c = let a = c .before .before .before .before .args in changed (a .d) (a .revision) (a .request .now) (a .area .now) (c .enum-told9 .given .1) refl refl
 
--- src/change.rt:11:1
 returns-10 : tie.Need-returns-10
 returns-10 c =
     let a = c .before .before .before .before .before .before .before .before .args in
     changed (a .d) (a .revision) (a .request .now) (a .area .now) (c .before .before .before .before .enum-told10 .given .1)
     (ap (λ (x : Security). a .d with-security x) (c .before .before .set-passphrase .ensures ∙ ap (setPassphraseChange (a .d .security)) (rest 32 (a .request .now)))) refl
 
--- src/change.rt:11:1
 returns-11 : tie.Need-returns-11
 returns-11 c =
     let a = c .before .before .before .before .before .before .before .args in
     changed (a .d) (a .revision) (a .request .now) (a .area .now) (c .before .before .before .enum-told11 .given .1) (ap (λ (x : Security). a .d with-security x) (c .before .before .disable .ensures)) refl
 
--- src/change.rt:11:1
 returns-12 : tie.Need-returns-12
 returns-12 c =
     let a = c .before .before .before .before .before .before .before .args in
     changed (a .d) (a .revision) (a .request .now) (a .area .now) (c .before .before .before .enum-told12 .given .1) (ap (λ (x : Security). a .d with-security x) (c .before .before .unlock .ensures)) refl
 
--- src/change.rt:11:1
 returns-13 : tie.Need-returns-13
 returns-13 c =
     let a = c .before .before .before .before .before .before .before .args in
     changed (a .d) (a .revision) (a .request .now) (a .area .now) (c .before .before .before .enum-told13 .given .1) (ap (λ (x : Security). a .d with-security x) (c .before .before .freeze .ensures)) refl
 
--- src/change.rt:11:1
 returns-14 : tie.Need-returns-14
 returns-14 c = let a = c .before .before .before .before .args in changed (a .d) (a .revision) (a .request .now) (a .area .now) (c .enum-told14 .given .1) refl refl
 

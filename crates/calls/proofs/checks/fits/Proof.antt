@@ -1,15 +1,13 @@
+-- `calls::fits` meets its contract. The row says which of the two tests counts.
+-- Assumes nothing.
 use Rattle.rules.specs.Table.{fits?}
 use Rattle.calls.proofs.checks.fits.Statement.{statement}
 use Rattle.calls.proofs.checks.fits.Tie as tie
-use Rattle.calls.proofs.checks.fits.Reads as reads
-use Rattle.calls.proofs.checks.fits.Lts as lts
 
--- src/checks.rt:24:9
 returns : tie.Need-returns
 unfolding fits?
 returns c = simp (c .if1 .taken)
 
--- src/checks.rt:16:1
 returns-2 : tie.Need-returns-2
 unfolding fits?
 returns-2 c = simp (c .if1 .left)

@@ -1,3 +1,5 @@
+-- `calls::judge` meets its contract. The gate first; where it accepts, the function decides.
+-- Assumes nothing.
 use mathlib.Core.Path.{sym, _∙_, ap, subst}
 use lib.ListN.{length}
 use Rattle.rules.specs.Refusals.{verdict}
@@ -11,24 +13,16 @@ use mathlib.Core.Path.{sym, _∙_}
 use borrow.Author.Needs.{needs}
 use Rattle.calls.proofs.checks.judge.Statement.{statement}
 use Rattle.calls.proofs.checks.judge.Tie as tie
-use Rattle.calls.proofs.checks.judge.Reads as reads
-use Rattle.calls.proofs.checks.judge.Lts as lts
-use Rattle.calls.proofs.checks.judge_function.Reads as judge-function-reads
-use Rattle.calls.proofs.checks.judge_gate.Reads as judge-gate-reads
 
--- src/checks.rt:110:9
 judge-gate-requires : tie.Need-judge-gate-requires
 judge-gate-requires c κs = search needs
 
--- src/checks.rt:112:26
 enum-known-gate : tie.Need-enum-known-gate
 enum-known-gate c = search needs
 
--- src/checks.rt:114:17
 enum-told : tie.Need-enum-told
 enum-told c = search needs
 
--- src/checks.rt:115:13
 judge-function-requires : tie.Need-judge-function-requires
 judge-function-requires c κs =
     let k = c .before .before .before .before .before .before in
@@ -36,14 +30,12 @@ judge-function-requires c κs =
     subst (λ (r : Row). Fitting (r .function) (length (a .request .now))) (sym (k .pre))
     (gate-fits (a .d) (a .area .now) (a .revision) (a .index) (a .request .now) (a .answer .now) (sym (c .before .before .judge-gate .ensures) ∙ c .enum-told .given .1))
 
--- src/checks.rt:98:1
 returns : tie.Need-returns
 returns c =
     let a = c .before .before .before .before .before .before .before .args in
     stands (gateChecks (a .d) (a .area .now) (a .revision) (a .index) (a .request .now) (a .answer .now)) (checks (a .d) (callOf (rowOf (a .index) .function) (a .revision) (a .request .now)))
     (sym (c .before .before .before .judge-gate .ensures) ∙ c .before .gate .given .1)
 
--- src/checks.rt:98:1
 returns-2 : tie.Need-returns-2
 returns-2 c =
     let k = c .before .before .before .before .before .before .before in

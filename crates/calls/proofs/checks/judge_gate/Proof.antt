@@ -1,3 +1,5 @@
+-- `calls::judge_gate` meets its contract. R1, then R2 and R3, then the table.
+-- Assumes nothing.
 use mathlib.Core.Path.{sym, _∙_}
 use mathlib.Core.List.{[], _∷_, _++_}
 use lib.ListN.{length}
@@ -10,33 +12,23 @@ use mathlib.Core.Path.{sym, _∙_}
 use borrow.Author.Needs.{needs}
 use Rattle.calls.proofs.checks.judge_gate.Statement.{statement}
 use Rattle.calls.proofs.checks.judge_gate.Tie as tie
-use Rattle.calls.proofs.checks.judge_gate.Reads as reads
-use Rattle.calls.proofs.checks.judge_gate.Lts as lts
-use Rattle.calls.proofs.checks.judge_table.Reads as judge-table-reads
-use Rattle.record.proofs.judge_event.Reads as judge-event-reads
 
--- src/checks.rt:62:9
 returns : tie.Need-returns
 unfolding verdict
 returns c = simp (c .if1 .taken)
 
--- src/checks.rt:64:9
 judge-event-requires : tie.Need-judge-event-requires
 judge-event-requires c κs = search needs
 
--- src/checks.rt:66:26
 enum-known-event : tie.Need-enum-known-event
 enum-known-event c = search needs
 
--- src/checks.rt:67:30
 enum-told : tie.Need-enum-told
 enum-told c = search needs
 
--- src/checks.rt:67:30
 judge-table-requires : tie.Need-judge-table-requires
 judge-table-requires c κs = search needs
 
--- src/checks.rt:48:1
 returns-2 : tie.Need-returns-2
 returns-2 c =
     let a = c .before .before .before .before .before .before .before .before .args in
@@ -44,7 +36,6 @@ returns-2 c =
     stands (eventChecks (a .d) (a .area .now)) rows (sym (c .before .before .before .judge-event .ensures) ∙ c .before .event .given .1)
     ∙ sym (passed-by (length (a .answer .now) <? 64) (R 1) (eventChecks (a .d) (a .area .now) ++ rows) (c .before .before .before .before .if1 .left))
 
--- src/checks.rt:48:1
 returns-3 : tie.Need-returns-3
 returns-3 c =
     let a = c .before .before .before .before .before .before .before .before .args in

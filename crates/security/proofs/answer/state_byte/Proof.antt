@@ -1,28 +1,23 @@
+-- `security::state_byte` meets its contract. Four flags that are shifted apart add up to the byte.
+-- Assumes nothing.
 use lib.Dec.{eqb}
 use Rattle.security.proofs.Bits.{bits-or}
 use borrow.Author.Needs.{needs}
 use Rattle.security.proofs.answer.state_byte.Statement.{statement}
 use Rattle.security.proofs.answer.state_byte.Tie as tie
-use Rattle.security.proofs.answer.state_byte.Reads as reads
-use Rattle.security.proofs.answer.state_byte.Lts as lts
 
--- src/answer.rt:16:7
 cast-result : tie.Need-cast-result
 cast-result c = search needs
 
--- src/answer.rt:17:13
 cast-result-2 : tie.Need-cast-result-2
 cast-result-2 c = search needs
 
--- src/answer.rt:18:13
 cast-result-3 : tie.Need-cast-result-3
 cast-result-3 c = search needs
 
--- src/answer.rt:19:13
 cast-result-4 : tie.Need-cast-result-4
 cast-result-4 c = search needs
 
--- src/answer.rt:12:1
 returns : tie.Need-returns
 returns c =
     let s = c .before .before .before .before .args .s in

@@ -1,30 +1,30 @@
-use mathlib.Core.Path.{_∙_, ap}
-use mathlib.Core.List.{List}
-use Prim.Native.Nat.{ℕ}
+-- `security::set_passphrase` meets its contract. Thirty-two bytes copied over thirty-two zeros are those bytes.
+-- Assumes nothing.
+use mathlib.Core.Path.{_∙_}
+use mathlib.Core.Bool.{true}
 use native.Mathlib.Omega.{arith}
 use lib.ListN.{replicate}
-use Rattle.rules.specs.Security.{setPassphraseChange}
+use Rattle.rules.specs.With.{_with-enabled_, _with-passphrase_}
 use Rattle.base.proofs.Parts.{copy-whole}
 use borrow.Author.Needs.{needs}
 use Rattle.security.proofs.change.set_passphrase.Statement.{statement}
 use Rattle.security.proofs.change.set_passphrase.Tie as tie
-use Rattle.security.proofs.change.set_passphrase.Reads as reads
-use Rattle.security.proofs.change.set_passphrase.Lts as lts
-use Rattle.base.proofs.copy.Reads as copy-reads
 
--- src/change.rt:12:16
 slice-aggregate-copy : tie.Need-slice-aggregate-copy
 slice-aggregate-copy c = search needs
 
--- src/change.rt:12:5
 copy-requires : tie.Need-copy-requires
 copy-requires c κs = search needs
 
--- src/change.rt:7:1
+right-requires : tie.Need-right-requires
+right-requires c κs = search needs
+
 returns : tie.Need-returns
 returns c =
-    let a = c .before .before .before .before .args in
-    ap (λ (p : List ℕ). setPassphraseChange (a .s) p) (c .before .copy .ensures ∙ copy-whole (a .new .now) (replicate 32 0) (omega (arith, c .before .before .before .before .pre)))
+    let a = c .before .before .before .before .before .args in
+    let copied = c .before .before .copy .ensures ∙ copy-whole (a .new .now) (replicate 32 0) (omega (arith, c .before .before .before .before .before .pre)) in
+    λ i. c .right .ensures i with-passphrase (copied i) with-enabled true
 
 pub set-passphrase-spec : {M : Type 1} → statement M
-set-passphrase-spec = tie.close (tie.spec slice-aggregate-copy copy-requires returns)
+set-passphrase-spec =
+    tie.close (tie.spec slice-aggregate-copy copy-requires right-requires returns)

@@ -1,15 +1,13 @@
+-- `security::judge_freeze` meets its contract. Each row of the checks is one test, in its order, and the tests are the flags of the code.
+-- Assumes nothing.
 use Rattle.rules.specs.Refusals.{verdict}
 use Rattle.security.proofs.checks.judge_freeze.Statement.{statement}
 use Rattle.security.proofs.checks.judge_freeze.Tie as tie
-use Rattle.security.proofs.checks.judge_freeze.Reads as reads
-use Rattle.security.proofs.checks.judge_freeze.Lts as lts
 
--- src/checks.rt:70:9
 returns : tie.Need-returns
 unfolding verdict
 returns c = simp (c .if1 .taken)
 
--- src/checks.rt:65:1
 returns-2 : tie.Need-returns-2
 unfolding verdict
 returns-2 c = simp (c .if1 .left)

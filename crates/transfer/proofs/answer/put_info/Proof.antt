@@ -1,3 +1,5 @@
+-- `transfer::put_info` meets its contract. The seven fields stand in their places over zeros (proofs/Built.antt).
+-- Assumes nothing.
 use mathlib.Core.Path.{_∙_, ap}
 use mathlib.Core.List.{List}
 use Prim.Native.Nat.{ℕ}
@@ -6,80 +8,58 @@ use Rattle.transfer.proofs.Built.{info-built}
 use borrow.Author.Needs.{needs}
 use Rattle.transfer.proofs.answer.put_info.Statement.{statement}
 use Rattle.transfer.proofs.answer.put_info.Tie as tie
-use Rattle.transfer.proofs.answer.put_info.Reads as reads
-use Rattle.transfer.proofs.answer.put_info.Lts as lts
-use Rattle.base.proofs.copy.Reads as copy-reads
-use Rattle.base.proofs.put_at.Reads as put-at-reads
 
--- src/answer.rt:17:18
 slice-aggregate-put-at : tie.Need-slice-aggregate-put-at
 slice-aggregate-put-at c = search needs
 
--- src/answer.rt:17:5
 put-at-requires : tie.Need-put-at-requires
 put-at-requires c κs = search needs
 
--- src/answer.rt:18:18
 slice-aggregate-put-at-2 : tie.Need-slice-aggregate-put-at-2
 slice-aggregate-put-at-2 c = search needs
 
--- src/answer.rt:18:5
 put-at-requires-2 : tie.Need-put-at-requires-2
 put-at-requires-2 c κs = search needs
 
--- src/answer.rt:19:18
 slice-aggregate-put-at-3 : tie.Need-slice-aggregate-put-at-3
 slice-aggregate-put-at-3 c = search needs
 
--- src/answer.rt:19:5
 put-at-requires-3 : tie.Need-put-at-requires-3
 put-at-requires-3 c κs = search needs
 
--- src/answer.rt:20:18
 slice-aggregate-put-at-4 : tie.Need-slice-aggregate-put-at-4
 slice-aggregate-put-at-4 c = search needs
 
--- src/answer.rt:20:5
 put-at-requires-4 : tie.Need-put-at-requires-4
 put-at-requires-4 c κs = search needs
 
--- src/answer.rt:21:18
 slice-aggregate-put-at-5 : tie.Need-slice-aggregate-put-at-5
 slice-aggregate-put-at-5 c = search needs
 
--- src/answer.rt:21:5
 put-at-requires-5 : tie.Need-put-at-requires-5
 put-at-requires-5 c κs = search needs
 
--- src/answer.rt:22:18
 slice-aggregate-put-at-6 : tie.Need-slice-aggregate-put-at-6
 slice-aggregate-put-at-6 c = search needs
 
--- src/answer.rt:22:5
 put-at-requires-6 : tie.Need-put-at-requires-6
 put-at-requires-6 c κs = search needs
 
--- src/answer.rt:23:18
 slice-aggregate-put-at-7 : tie.Need-slice-aggregate-put-at-7
 slice-aggregate-put-at-7 c = search needs
 
--- src/answer.rt:23:5
 put-at-requires-7 : tie.Need-put-at-requires-7
 put-at-requires-7 c κs = search needs
 
--- src/answer.rt:24:24
 slice-aggregate-copy : tie.Need-slice-aggregate-copy
 slice-aggregate-copy c = search needs
 
--- src/answer.rt:24:5
 copy-requires : tie.Need-copy-requires
 copy-requires c κs = search needs
 
--- src/answer.rt:12:1
 same-length : tie.Need-same-length
 same-length c = search needs
 
--- src/answer.rt:12:1
 returns : tie.Need-returns
 returns c =
     let k = c .before .before in

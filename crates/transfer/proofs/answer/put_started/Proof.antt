@@ -1,40 +1,30 @@
+-- `transfer::put_started` meets its contract. The context stands at 4 over zeros.
+-- Assumes nothing.
 use borrow.Author.Needs.{needs}
 use Rattle.transfer.proofs.answer.put_started.Statement.{statement}
 use Rattle.transfer.proofs.answer.put_started.Tie as tie
-use Rattle.transfer.proofs.answer.put_started.Reads as reads
-use Rattle.transfer.proofs.answer.put_started.Lts as lts
-use Rattle.base.proofs.copy.Reads as copy-reads
-use Rattle.base.proofs.put_at.Reads as put-at-reads
 
--- src/answer.rt:32:18
 slice-aggregate-put-at : tie.Need-slice-aggregate-put-at
 slice-aggregate-put-at c = search needs
 
--- src/answer.rt:32:36
 cast-put-at : tie.Need-cast-put-at
 cast-put-at c = search needs
 
--- src/answer.rt:32:36
 add-put-at : tie.Need-add-put-at
 add-put-at c = search needs
 
--- src/answer.rt:32:5
 put-at-requires : tie.Need-put-at-requires
 put-at-requires c κs = search needs
 
--- src/answer.rt:33:24
 slice-aggregate-copy : tie.Need-slice-aggregate-copy
 slice-aggregate-copy c = search needs
 
--- src/answer.rt:33:5
 copy-requires : tie.Need-copy-requires
 copy-requires c κs = search needs
 
--- src/answer.rt:27:1
 same-length : tie.Need-same-length
 same-length c = search needs
 
--- src/answer.rt:27:1
 returns : tie.Need-returns
 returns c = simp (c .before .before .before .before .before .before .put-at .ensures, c .before .before .copy .ensures)
 

@@ -1,4 +1,6 @@
-use mathlib.Core.Path.{_≡_, _∙_, ap, sym}
+-- `transfer::send` meets its contract. What acceptance says of the numbers puts the part inside the area, and the part that is lent comes back with the piece in it.
+-- Assumes nothing.
+use mathlib.Core.Path.{_∙_, ap}
 use mathlib.Core.List.{List, []}
 use Prim.Native.Nat.{ℕ, _+_, _-_, _≤_}
 use native.Mathlib.Omega.{arith}
@@ -9,10 +11,6 @@ use Rattle.base.proofs.Parts.{rest, part-long, lent-copy}
 use borrow.Author.Needs.{needs}
 use Rattle.transfer.proofs.change.send.Statement.{statement}
 use Rattle.transfer.proofs.change.send.Tie as tie
-use Rattle.transfer.proofs.change.send.Reads as reads
-use Rattle.transfer.proofs.change.send.Lts as lts
-use Rattle.base.proofs.copy.Reads as copy-reads
-use Rattle.base.proofs.word.Reads as word-reads
 
 -- what acceptance says of the numbers that were read
 fits : (c : tie.After-word2) → SendFits (c .before .before .before .before .args .t) (c .before .word .result) (c .word2 .result) (drop 12 (c .before .before .before .before .args .request .now))
@@ -21,51 +19,39 @@ fits c =
     let q = a .request .now in
     rw (c .before .word .ensures, c .word2 .ensures) (send-fits (a .t) (numberAt 4 0 q) (numberAt 4 4 q) (numberAt 4 8 q) (drop 12 q) (c .before .before .before .before .pre .1 .1))
 
--- src/change.rt:31:18
 word-requires : tie.Need-word-requires
 word-requires c κs = search needs
 
--- src/change.rt:31:18
 cast-offset : tie.Need-cast-offset
 cast-offset c = search needs
 
--- src/change.rt:32:9
 word-requires-2 : tie.Need-word-requires-2
 word-requires-2 c κs = search needs
 
--- src/change.rt:33:24
 cast-end : tie.Need-cast-end
 cast-end c = search needs
 
--- src/change.rt:33:15
 add-end : tie.Need-add-end
 add-end c = search needs
 
--- src/change.rt:34:16
 sub-copy : tie.Need-sub-copy
 sub-copy c = search needs
 
--- src/change.rt:34:16
 part-copy-start : tie.Need-part-copy-start
 part-copy-start c = search needs
 
--- src/change.rt:34:16
 part-copy-end : tie.Need-part-copy-end
 part-copy-end c = let f = fits c in omega (arith, c .before .before .before .before .pre .0)
 
--- src/change.rt:34:40
 sub-copy-2 : tie.Need-sub-copy-2
 sub-copy-2 c = search needs
 
--- src/change.rt:34:40
 part-copy-start-2 : tie.Need-part-copy-start-2
 part-copy-start-2 c = search needs
 
--- src/change.rt:34:40
 part-copy-end-2 : tie.Need-part-copy-end-2
 part-copy-end-2 c = search needs
 
--- src/change.rt:34:5
 copy-requires : tie.Need-copy-requires
 copy-requires c κs =
     let k = c .before .before in
@@ -74,15 +60,12 @@ copy-requires c κs =
     let h : k .before .word .result + k .word2 .result ≤ length (a .area .now) = omega (arith, k .before .before .before .before .pre .0) in
     rw (rest 12 (a .request .now), part-long (k .before .word .result) (k .word2 .result) (a .area .now) [] h) (omega arith)
 
--- src/change.rt:35:20
 add-received : tie.Need-add-received
 add-received c = let f = fits (c .before .before .before .before .before .before) in omega arith
 
--- src/change.rt:24:1
 same-length : tie.Need-same-length
 same-length c = search needs
 
--- src/change.rt:24:1
 returns : tie.Need-returns
 returns c =
     let k = c .before .before .before .before .before .before in

@@ -1,46 +1,36 @@
+-- `transfer::judge_query` meets its contract. Each row of the checks is one test, in its order, and the tests are the flags of the code.
+-- Assumes nothing.
 use Rattle.rules.specs.Refusals.{verdict}
 use borrow.Author.Needs.{needs}
 use Rattle.transfer.proofs.checks.judge_query.Statement.{statement}
 use Rattle.transfer.proofs.checks.judge_query.Tie as tie
-use Rattle.transfer.proofs.checks.judge_query.Reads as reads
-use Rattle.transfer.proofs.checks.judge_query.Lts as lts
-use Rattle.base.proofs.word.Reads as word-reads
-use Rattle.record.proofs.phase_number.Reads as phase-number-reads
 
--- src/checks.rt:86:9
 phase-number-requires : tie.Need-phase-number-requires
 phase-number-requires c κs = search needs
 
--- src/checks.rt:87:9
 word-requires : tie.Need-word-requires
 word-requires c κs = search needs
 
--- src/checks.rt:94:9
 returns : tie.Need-returns
 unfolding verdict
 returns c = simp (← c .before .before .before .before .phase-number .ensures, ← c .before .before .before .word .ensures, c .if1 .taken)
 
--- src/checks.rt:97:9
 returns-2 : tie.Need-returns-2
 unfolding verdict
 returns-2 c = simp (← c .before .before .before .before .before .phase-number .ensures, ← c .before .before .before .before .word .ensures, c .before .if1 .left, c .if2 .taken)
 
--- src/checks.rt:100:9
 returns-3 : tie.Need-returns-3
 unfolding verdict
 returns-3 c = simp (← c .before .before .before .before .before .before .phase-number .ensures, ← c .before .before .before .before .before .word .ensures, c .before .before .if1 .left, c .before .if2 .left, c .if3 .taken)
 
--- src/checks.rt:103:9
 returns-4 : tie.Need-returns-4
 unfolding verdict
 returns-4 c = simp (← c .before .before .before .before .before .before .before .phase-number .ensures, ← c .before .before .before .before .before .before .word .ensures, c .before .before .before .if1 .left, c .before .before .if2 .left, c .before .if3 .left, c .if4 .taken)
 
--- src/checks.rt:106:9
 returns-5 : tie.Need-returns-5
 unfolding verdict
 returns-5 c = simp (← c .before .before .before .before .before .before .before .before .phase-number .ensures, ← c .before .before .before .before .before .before .before .word .ensures, c .before .before .before .before .if1 .left, c .before .before .before .if2 .left, c .before .before .if3 .left, c .before .if4 .left, c .if5 .taken)
 
--- src/checks.rt:81:1
 returns-6 : tie.Need-returns-6
 unfolding verdict
 returns-6 c = simp (← c .before .before .before .before .before .before .before .before .phase-number .ensures, ← c .before .before .before .before .before .before .before .word .ensures, c .before .before .before .before .if1 .left, c .before .before .before .if2 .left, c .before .before .if3 .left, c .before .if4 .left, c .if5 .left)

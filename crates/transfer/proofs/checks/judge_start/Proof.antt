@@ -1,31 +1,25 @@
+-- `transfer::judge_start` meets its contract. Each row of the checks is one test, in its order, and the tests are the flags of the code.
+-- Assumes nothing.
 use Rattle.rules.specs.Refusals.{verdict}
 use borrow.Author.Needs.{needs}
 use Rattle.transfer.proofs.checks.judge_start.Statement.{statement}
 use Rattle.transfer.proofs.checks.judge_start.Tie as tie
-use Rattle.transfer.proofs.checks.judge_start.Reads as reads
-use Rattle.transfer.proofs.checks.judge_start.Lts as lts
-use Rattle.record.proofs.phase_number.Reads as phase-number-reads
 
--- src/checks.rt:15:9
 phase-number-requires : tie.Need-phase-number-requires
 phase-number-requires c κs = search needs
 
--- src/checks.rt:20:9
 returns : tie.Need-returns
 unfolding verdict
 returns c = simp (← c .before .before .phase-number .ensures, c .if1 .taken)
 
--- src/checks.rt:23:9
 returns-2 : tie.Need-returns-2
 unfolding verdict
 returns-2 c = simp (← c .before .before .before .phase-number .ensures, c .before .if1 .left, c .if2 .taken)
 
--- src/checks.rt:26:9
 returns-3 : tie.Need-returns-3
 unfolding verdict
 returns-3 c = simp (← c .before .before .before .before .phase-number .ensures, c .before .before .if1 .left, c .before .if2 .left, c .if3 .taken)
 
--- src/checks.rt:11:1
 returns-4 : tie.Need-returns-4
 unfolding verdict
 returns-4 c = simp (← c .before .before .before .before .phase-number .ensures, c .before .before .if1 .left, c .before .if2 .left, c .if3 .left)

@@ -1,48 +1,36 @@
+-- `transfer::tick` meets its contract. The phase and the ticks left choose the change; the received bytes lie in the area.
+-- Assumes nothing.
 use mathlib.Core.Path.{sym}
 use lib.Seq.{length-take-le}
 use borrow.Author.Tests.{lt-ltb, le-ltb}
 use borrow.Author.Needs.{needs}
 use Rattle.transfer.proofs.time.tick.Statement.{statement}
 use Rattle.transfer.proofs.time.tick.Tie as tie
-use Rattle.transfer.proofs.time.tick.Reads as reads
-use Rattle.transfer.proofs.time.tick.Lts as lts
-use Rattle.image.proofs.image.Reads as image-reads
-use Rattle.record.proofs.phase_number.Reads as phase-number-reads
-use Rattle.transfer.proofs.time.verified.Reads as verified-reads
 
--- src/time.rt:33:21
 phase-number-requires : tie.Need-phase-number-requires
 phase-number-requires c κs = search needs
 
--- src/time.rt:35:9
 returns : tie.Need-returns
 returns c = simp (← c .before .phase-number .ensures, c .if1 .taken)
 
--- src/time.rt:40:20
 sub-t8 : tie.Need-sub-t8
 sub-t8 c = search needs
 
--- src/time.rt:38:9
 returns-2 : tie.Need-returns-2
 returns-2 c = simp (← c .before .before .before .before .phase-number .ensures, c .before .before .before .if1 .left, lt-ltb 1 (c .before .before .before .before .before .before .args .t .ticks) (c .before .if2 .taken))
 
--- src/time.rt:44:20
 cast-received : tie.Need-cast-received
 cast-received c = search needs
 
--- src/time.rt:45:30
 slice-aggregate-image : tie.Need-slice-aggregate-image
 slice-aggregate-image c = let k = c .before .before .before .before .before .before .before in sym (length-take-le (k .args .t .received) (k .args .area .now) (k .pre))
 
--- src/time.rt:45:17
 image-requires : tie.Need-image-requires
 image-requires c κs = search needs
 
--- src/time.rt:45:5
 verified-requires : tie.Need-verified-requires
 verified-requires c κs = search needs
 
--- src/time.rt:28:1
 returns-3 : tie.Need-returns-3
 returns-3 c = simp (← c .before .before .before .before .before .before .before .phase-number .ensures, c .before .before .before .before .before .before .if1 .left, le-ltb 1 (c .before .before .before .before .before .before .before .before .before .args .t .ticks) (c .before .before .before .before .if2 .left), c .before .image .ensures, c .verified .ensures)
 

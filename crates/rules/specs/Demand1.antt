@@ -1,0 +1,79 @@
+-- Demand 1. "Any call, with any bytes and any device record, gets an answer and ends. A call we can't serve is refused by its number in document 01. A
+-- refused call leaves the device record and the staging area unchanged, but for one thing: a wrong passphrase adds one to the attempt count."
+-- That a call ends is proved of the code, with every function of it. What it answers is said here, of the definitions.
+-- Assumes nothing.
+use mathlib.Core.Path.{_≡_}
+use mathlib.Core.Bool.{Bool, true, _&&_, _||_}
+use mathlib.Core.List.{List, [], _∷_, _++_}
+use Prim.Native.Nat.{ℕ, _-_}
+use lib.ListN.{length, take}
+use Rattle.rules.specs.Tests.{if_then_else_, _≤?_, _=?_}
+use Rattle.rules.specs.Bytes.{zeros}
+use Rattle.rules.specs.Refusals.{statusBytes, answerAfter, oneAttemptMore}
+use Rattle.rules.specs.Table.{rowOf}
+use Rattle.rules.specs.Module.{Result, callResult}
+use Rattle.rules.specs.declared.Function.{Function}
+use Rattle.rules.specs.declared.Function.the-variants.{Mask, GetThreshold, GetFwInfo, Start, Send, Finish, Query, SetThreshold, GetSecurityState, SetPassphrase, Disable, Unlock, Freeze, Unserved}
+use Rattle.rules.specs.declared.Row.{Row}
+use Rattle.rules.specs.declared.Refusal.{Refusal}
+use Rattle.rules.specs.declared.Refusal.the-variants.{R, Status}
+use Rattle.rules.specs.declared.Verdict.the-variants.{Accepted, Refused}
+use Rattle.rules.specs.declared.Device.{Device}
+
+-- the refusal numbers of document 01: R1 to R3; 1, 3, 6, 8, 10, 11; 7 with an extended number from 1 to 4
+abbrev pub numbered : Refusal → Bool
+numbered (R number) = 1 ≤? number && number ≤? 3
+numbered (Status status ext) =
+    (ext =? 0 && (status =? 1 || status =? 3 || status =? 6 || status =? 8 || status =? 10 || status =? 11))
+    || (status =? 7 && 1 ≤? ext && ext ≤? 4)
+
+-- the column "Answer bytes" of the refusal table, for a function whose answer has n bytes
+abbrev pub column : (status n : ℕ) → ℕ
+column status n =
+    if status =? 1 || status =? 10 || status =? 11 then 4
+    else if status =? 6 then 12
+    else if status =? 8 then 8
+    else n
+
+-- A refused call is refused by its number in document 01, and writes that number's bytes. It leaves the record and the area unchanged, but for one thing.
+abbrev pub RefusedBy : Refusal → Device → (area : List ℕ) (n : ℕ) (answer : List ℕ) → Result → Type 0
+RefusedBy (R number) d area n answer result =
+    (result .device ≡ d) × (result .area ≡ area) × (result .answer ≡ answer) × (result .reply .length ≡ 0)
+RefusedBy (Status status ext) d area n answer result =
+    (result .device ≡ (if status =? 11 then oneAttemptMore d else d))
+    × (result .area ≡ area)
+    × (result .answer ≡ answerAfter (statusBytes status ext ++ zeros (column status n - 4)) answer)
+    × (result .reply .length ≡ column status n)
+
+-- An accepted call gets the function's answer: bytes of its length over the front of the buffer, which begin with status 0 and extended number 0, but for
+-- function 0.
+abbrev pub Begins : Function → (bytes : List ℕ) → Type 0
+Begins Mask bytes = Unit {0}
+Begins GetThreshold bytes = take 4 bytes ≡ zeros 4
+Begins GetFwInfo bytes = take 4 bytes ≡ zeros 4
+Begins Start bytes = take 4 bytes ≡ zeros 4
+Begins Send bytes = take 4 bytes ≡ zeros 4
+Begins Finish bytes = take 4 bytes ≡ zeros 4
+Begins Query bytes = take 4 bytes ≡ zeros 4
+Begins SetThreshold bytes = take 4 bytes ≡ zeros 4
+Begins GetSecurityState bytes = take 4 bytes ≡ zeros 4
+Begins SetPassphrase bytes = take 4 bytes ≡ zeros 4
+Begins Disable bytes = take 4 bytes ≡ zeros 4
+Begins Unlock bytes = take 4 bytes ≡ zeros 4
+Begins Freeze bytes = take 4 bytes ≡ zeros 4
+Begins Unserved bytes = take 4 bytes ≡ zeros 4
+
+pub record Answered (row : Row) (answer : List ℕ) (result : Result) : Type 0 where
+  pub bytes : List ℕ
+  pub written : result .answer ≡ answerAfter bytes answer
+  pub long : length bytes ≡ row .answer
+  pub told : result .reply .length ≡ row .answer
+  pub begins : Begins (row .function) bytes
+
+-- Demand 1 of a call
+pub record Demand1 (d : Device) (area : List ℕ) (revision index : ℕ) (request answer : List ℕ) : Type 0 where
+  pub numbers : (refusal : Refusal) → callResult d area revision index request answer .reply .verdict ≡ Refused refusal → numbered refusal ≡ true
+  pub leaves : (refusal : Refusal) → callResult d area revision index request answer .reply .verdict ≡ Refused refusal
+      → RefusedBy refusal d area (rowOf index .answer) answer (callResult d area revision index request answer)
+  pub answers : callResult d area revision index request answer .reply .verdict ≡ Accepted
+      → Answered (rowOf index) answer (callResult d area revision index request answer)

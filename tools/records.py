@@ -1,0 +1,158 @@
+"""Log records, requests and firmware images as bytes, by document 01 ("the page").
+
+A log record has 544 bytes: kind, host, revision (2), function (2), request length (2), request padded with zeros
+to 536. This module only writes and reads bytes; what the module behind the calls answers is no matter of it.
+"""
+
+RECORD = 544
+REQUEST_AT = 8
+REQUEST_MOST = 536
+AREA = 16384
+IMAGE_RECORD = 128
+IMAGE_MOST = 128
+PASSPHRASE = 32
+
+CALL, TICK, POWER = 1, 2, 3
+
+MASK, GET_THRESHOLD, INFO, START, SEND, FINISH, QUERY, SET_THRESHOLD = 0, 2, 12, 13, 14, 15, 16, 17
+SECURITY, SET_PASSPHRASE, DISABLE, UNLOCK, FREEZE = 19, 20, 21, 22, 23
+
+NAMES = {
+    MASK: "Function mask", GET_THRESHOLD: "Get Threshold", INFO: "Get FW Info", START: "Start", SEND: "Send",
+    FINISH: "Finish", QUERY: "Query Finish", SET_THRESHOLD: "Set Threshold", SECURITY: "Get Security State",
+    SET_PASSPHRASE: "Set Passphrase", DISABLE: "Disable", UNLOCK: "Unlock", FREEZE: "Freeze",
+}
+
+# Request bytes. Send has 12 and its piece; function 0 reads past its request.
+REQUEST_BYTES = {
+    GET_THRESHOLD: 0, INFO: 0, START: 0, FINISH: 8, QUERY: 4, SET_THRESHOLD: 7, SECURITY: 0,
+    SET_PASSPHRASE: 2 * PASSPHRASE, DISABLE: PASSPHRASE, UNLOCK: PASSPHRASE, FREEZE: 0,
+}
+SEND_HEAD = 12
+
+
+def le(number, width):
+    return number.to_bytes(width, "little")
+
+
+def number_at(data, at, width):
+    return int.from_bytes(data[at:at + width], "little")
+
+
+# ---- Records ----
+
+def call(host, function, request=b"", revision=2, length=None):
+    """A call's record. A request length that is not the request's own makes a bad record, or a shorter request."""
+    head = bytes([CALL, host]) + le(revision, 2) + le(function, 2) + le(len(request) if length is None else length, 2)
+    return (head + request).ljust(RECORD, b"\0")
+
+
+def event(kind):
+    return bytes([kind]).ljust(RECORD, b"\0")
+
+
+def poke(record, at, byte):
+    return record[:at] + bytes([byte]) + record[at + 1:]
+
+
+def why_bad(record):
+    """Why the page calls this record bad, or None."""
+    kind, host, length = record[0], record[1], number_at(record, 6, 2)
+    if kind in (TICK, POWER):
+        return bare_fault(record)
+    if kind != CALL:
+        return f"kind {kind} is not 1 (call), 2 (tick) or 3 (power)"
+    if not 1 <= host <= 4:
+        return f"host {host} is not 1 to 4"
+    if length > REQUEST_MOST:
+        return f"request length {length} is over {REQUEST_MOST}"
+    for at in range(REQUEST_AT + length, RECORD):
+        if record[at]:
+            return f"byte {at}, after the request, is {record[at]} and not zero"
+    return None
+
+
+def bare_fault(record):
+    for at in range(1, RECORD):
+        if record[at]:
+            return f"byte {at} of a {'tick' if record[0] == TICK else 'power cycle'} is {record[at]} and not zero"
+    return None
+
+
+# ---- Requests ----
+
+def send(context, offset, piece, length=None):
+    return le(context, 4) + le(offset, 4) + le(len(piece) if length is None else length, 4) + piece
+
+
+def finish(context, flag=0, reserved=b"\0\0\0"):
+    return bytes([flag]) + reserved.ljust(3, b"\0") + le(context, 4)
+
+
+def query(context):
+    return le(context, 4)
+
+
+def set_threshold(enable, spare, media, controller):
+    return le(enable, 2) + bytes([spare]) + le(media, 2) + le(controller, 2)
+
+
+def passphrase(text):
+    return text.ljust(PASSPHRASE, b"\0")
+
+
+def set_passphrase(current, new):
+    return passphrase(current) + passphrase(new)
+
+
+# ---- Images ----
+
+FAULTS = ("size", "number", "count", "zero-version", "version", "sum")
+
+
+def usual_payload(i, version):
+    """Differs from version to version and from record to record, so a mixture of two images shows."""
+    return bytes((7 * j + 31 * i + 113 * version + i * j) & 255 for j in range(112))
+
+
+def word_sum(body):
+    return sum(number_at(body, at, 4) for at in range(0, 124, 4)) & 0xFFFFFFFF
+
+
+def image_record(i, count, version, payload):
+    body = le(i, 2) + le(count, 2) + le(version, 8) + payload.ljust(112, b"\0")
+    return body + le(word_sum(body), 4)
+
+
+def image(records, version, payload=None, fault=None, at=None, size=None):
+    """An image of the house form, or one with a single fault. Sums are right but in a record with fault 'sum'."""
+    rows = []
+    for i in range(records):
+        number, count, own = i, records, version
+        here = i == (0 if at is None else at)
+        if fault == "number" and here:
+            number = i + 1
+        if fault == "count" and here:
+            count = records + 1
+        if fault == "version" and here:
+            own = version % 0xFFFFFFFFFFFFFFFF + 1
+        if fault == "zero-version" and (at is None or here):
+            own = 0
+        row = image_record(number, count, own, usual_payload(i, version) if payload is None else payload)
+        if fault == "sum" and here:
+            row = row[:124] + le((number_at(row, 124, 4) + 1) & 0xFFFFFFFF, 4)
+        rows.append(row)
+    whole = b"".join(rows)
+    if fault == "size":
+        size = len(whole) - 1 if size is None else size
+        whole = whole[:size].ljust(size, b"\0")
+    return whole
+
+
+def pieces(data, sizes):
+    """Cuts data into (offset, piece) by the sizes, which begin again when they are used up."""
+    at, turn = 0, 0
+    while at < len(data):
+        size = sizes[turn % len(sizes)]
+        yield at, data[at:at + size]
+        at, turn = at + size, turn + 1
