@@ -135,7 +135,7 @@ def image(records, version, payload=None, fault=None, at=None, size=None):
         if fault == "count" and here:
             count = records + 1
         if fault == "version" and here:
-            own = version % 0xFFFFFFFFFFFFFFFF + 1
+            own = version ^ 1 << (7 + 29 * i) % 64      # one bit turned: in the low half, then in the high, ..
         if fault == "zero-version" and (at is None or here):
             own = 0
         row = image_record(number, count, own, usual_payload(i, version) if payload is None else payload)

@@ -19,9 +19,9 @@ use Rattle.rules.specs.declared.Reply.{Reply}
 use Rattle.rules.specs.declared.Row.{Row}
 use Rattle.rules.specs.declared.Device.{Device}
 use Rattle.rules.proofs.Passed.{both-accepted}
-use Rattle.rules.proofs.Through.{NoR, Sound, call-through}
-use Rattle.calls.specs.Fitting.{Fitting}
-use Rattle.calls.proofs.Fits.{gate-fits, answers}
+use Rattle.rules.proofs.NoR.{NoR, Sound, call-through}
+use Rattle.rules.proofs.Fitting.{Fitting}
+use Rattle.rules.proofs.Fitting.{gate-fits, answers}
 use Rattle.module.specs.declared.Outcome.{Outcome}
 use Rattle.module.specs.Promise.{Promised}
 

@@ -33,19 +33,19 @@ pub fn call(
     ensures { λ r. ⌜ Promised (callResult d (now (area .entry)) revision function (now (request .entry)) (now (answer .entry))) r (now (area .exit)) (now (answer .exit)) ⌝ }
 {
     let row = table::look_up(function);
-    let verdict = calls::checks::judge(d, area, revision, function, row, request, answer);
+    let verdict = call_checks::judge(d, area, revision, function, row, request, answer);
     match verdict {
         Verdict::Accepted => {
             let served = row.function;
-            calls::answer::put_accepted(d, served, revision, answer);
-            let device = calls::change::change(d, area, served, revision, request);
+            call_answers::put_accepted(d, served, revision, answer);
+            let device = call_changes::change(d, area, served, revision, request);
             result(device, verdict, row.answer)
         }
         Verdict::Refused(refusal) => match refusal {
             Refusal::R { number: _ } => result(d, verdict, 0),
             Refusal::Status { status, ext } => {
-                let length = calls::answer::status_length(status, row.answer);
-                calls::answer::put_status(answer, status, ext, length);
+                let length = call_answers::status_length(status, row.answer);
+                call_answers::put_status(answer, status, ext, length);
                 result(record::left(status, d), verdict, length)
             }
         },

@@ -2,6 +2,9 @@ pub mod Claim
 pub mod Choice
 pub mod Passed
 pub mod Accepted
-pub mod Through
+pub mod NoR
 pub mod Rows
 pub mod Demand1
+pub mod Agree
+pub mod Fitting
+pub mod Told

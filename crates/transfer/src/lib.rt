@@ -1,5 +1,3 @@
-// Document 01, "A firmware transfer", on the transfer's part of the record and the staging area.
-pub mod answer;
+// Document 01, "A firmware transfer": what an accepted call, a tick and a power cycle change, in the transfer's part of the record and in the staging area.
 pub mod change;
-pub mod checks;
 pub mod time;

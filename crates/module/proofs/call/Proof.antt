@@ -3,7 +3,7 @@
 use native.Mathlib.Omega.{arith}
 use mathlib.Core.Path.{sym, _∙_, ap}
 use Rattle.rules.specs.declared.Verdict.the-variants.{Accepted, Refused}
-use Rattle.rules.proofs.Through.{attempts-most}
+use Rattle.rules.proofs.NoR.{attempts-most}
 use Rattle.module.proofs.Outcomes.{as-accepted, as-R, as-status, room, sound, fits, own-checks, status-fits}
 use borrow.Author.Needs.{needs}
 use Rattle.module.proofs.call.Statement.{statement}

@@ -7,7 +7,7 @@ use Rattle.rules.specs.With.{_with-transfer_}
 use Rattle.rules.specs.Transfer.{tickChange}
 use Rattle.rules.specs.Module.{tickResult}
 use Rattle.rules.specs.declared.Transfer.{Transfer}
-use Rattle.rules.proofs.Through.{event-through, received-most}
+use Rattle.rules.proofs.NoR.{event-through, received-most}
 use Rattle.module.proofs.Outcomes.{as-changed, as-left}
 use borrow.Author.Needs.{needs}
 use Rattle.module.proofs.tick.Statement.{statement}

@@ -1,0 +1,203 @@
+-- `call_changes::change` meets its contract. Each arm changes the part that its function works on.
+-- Assumes nothing.
+use mathlib.Core.Path.{refl, _∙_, ap}
+use native.Mathlib.Omega.{arith}
+use lib.ListN.{length, length-drop}
+use Rattle.base.proofs.Parts.{rest}
+use Rattle.rules.specs.Security.{setPassphraseChange}
+use Rattle.rules.specs.With.{_with-transfer_, _with-thresholds_, _with-security_}
+use Rattle.rules.specs.declared.Transfer.{Transfer}
+use Rattle.rules.specs.declared.Thresholds.{Thresholds}
+use Rattle.rules.specs.declared.Security.{Security}
+use Rattle.rules.proofs.Told.{there, passed, changed}
+use borrow.Author.Needs.{needs}
+use Rattle.call_changes.proofs.change.Statement.{statement}
+use Rattle.call_changes.proofs.change.Tie as tie
+
+enum-told : tie.Need-enum-told
+enum-told c = search needs
+
+enum-told-2 : tie.Need-enum-told-2
+enum-told-2 c = search needs
+
+enum-told-3 : tie.Need-enum-told-3
+enum-told-3 c = search needs
+
+enum-told-4 : tie.Need-enum-told-4
+enum-told-4 c = search needs
+
+start-requires : tie.Need-start-requires
+start-requires c κs = let k = c .before .before .before .before in passed (k .args .d) (k .args .revision) (k .args .request .now) (c .enum-told4 .given .1) (k .pre .1 .1)
+
+enum-told-5 : tie.Need-enum-told-5
+enum-told-5 c = search needs
+
+send-requires : tie.Need-send-requires
+send-requires c κs =
+    let k = c .before .before .before .before .before in
+    (k .pre .0, (there (length (k .args .request .now)) (c .before .enum-told5 .given .1) (k .pre .1 .0), passed (k .args .d) (k .args .revision) (k .args .request .now) (c .before .enum-told5 .given .1) (k .pre .1 .1)))
+
+enum-told-6 : tie.Need-enum-told-6
+enum-told-6 c = search needs
+
+finish-requires : tie.Need-finish-requires
+finish-requires c κs = let k = c .before .before .before .before in there (length (k .args .request .now)) (c .enum-told6 .given .1) (k .pre .1 .0)
+
+enum-told-7 : tie.Need-enum-told-7
+enum-told-7 c = search needs
+
+enum-told-8 : tie.Need-enum-told-8
+enum-told-8 c = search needs
+
+set-requires : tie.Need-set-requires
+set-requires c κs = let k = c .before .before .before .before in there (length (k .args .request .now)) (c .enum-told8 .given .1) (k .pre .1 .0)
+
+enum-told-9 : tie.Need-enum-told-9
+enum-told-9 c = search needs
+
+enum-told-10 : tie.Need-enum-told-10
+enum-told-10 c = search needs
+
+sub-set-passphrase : tie.Need-sub-set-passphrase
+sub-set-passphrase c = let k = c .before .before .before .before in let h = there (length (k .args .request .now)) (c .enum-told10 .given .1) (k .pre .1 .0) in omega arith
+
+part-set-passphrase-start : tie.Need-part-set-passphrase-start
+part-set-passphrase-start c = let k = c .before .before .before .before in let h = there (length (k .args .request .now)) (c .enum-told10 .given .1) (k .pre .1 .0) in omega arith
+
+part-set-passphrase-end : tie.Need-part-set-passphrase-end
+part-set-passphrase-end c = search needs
+
+set-passphrase-requires : tie.Need-set-passphrase-requires
+set-passphrase-requires c κs =
+    let k = c .before .before .before .before .before in
+    let h = there (length (k .args .request .now)) (c .before .enum-told10 .given .1) (k .pre .1 .0) in
+    rw (rest 32 (k .args .request .now), length-drop) (omega arith)
+
+enum-told-11 : tie.Need-enum-told-11
+enum-told-11 c = search needs
+
+disable-requires : tie.Need-disable-requires
+disable-requires c κs = search needs
+
+enum-told-12 : tie.Need-enum-told-12
+enum-told-12 c = search needs
+
+unlock-requires : tie.Need-unlock-requires
+unlock-requires c κs = search needs
+
+enum-told-13 : tie.Need-enum-told-13
+enum-told-13 c = search needs
+
+freeze-requires : tie.Need-freeze-requires
+freeze-requires c κs = search needs
+
+enum-told-14 : tie.Need-enum-told-14
+enum-told-14 c = search needs
+
+returns : tie.Need-returns
+returns c = let a = c .before .before .before .before .args in changed (a .d) (a .revision) (a .request .now) (a .area .now) (c .enum-told .given .1) refl refl
+
+returns-2 : tie.Need-returns-2
+returns-2 c = let a = c .before .before .before .before .args in changed (a .d) (a .revision) (a .request .now) (a .area .now) (c .enum-told2 .given .1) refl refl
+
+returns-3 : tie.Need-returns-3
+returns-3 c = let a = c .before .before .before .before .args in changed (a .d) (a .revision) (a .request .now) (a .area .now) (c .enum-told3 .given .1) refl refl
+
+returns-4 : tie.Need-returns-4
+returns-4 c =
+    let a = c .before .before .before .before .before .before .before .args in
+    changed (a .d) (a .revision) (a .request .now) (a .area .now) (c .before .before .before .enum-told4 .given .1) (ap (λ (x : Transfer). a .d with-transfer x) (c .before .before .start .ensures)) refl
+
+same-length : tie.Need-same-length
+same-length c = search needs
+
+returns-5 : tie.Need-returns-5
+returns-5 c =
+    let a = c .before .before .before .before .before .before .before .before .before .before .args in
+    let s = c .before .before .before .before in
+    changed (a .d) (a .revision) (a .request .now) (a .area .now) (s .before .before .enum-told5 .given .1) (ap (λ (x : Transfer). a .d with-transfer x) (s .send .ensures .0)) (s .send .ensures .1)
+
+returns-6 : tie.Need-returns-6
+returns-6 c =
+    let a = c .before .before .before .before .before .before .before .args in
+    changed (a .d) (a .revision) (a .request .now) (a .area .now) (c .before .before .before .enum-told6 .given .1) (ap (λ (x : Transfer). a .d with-transfer x) (c .before .before .finish .ensures)) refl
+
+returns-7 : tie.Need-returns-7
+returns-7 c = let a = c .before .before .before .before .args in changed (a .d) (a .revision) (a .request .now) (a .area .now) (c .enum-told7 .given .1) refl refl
+
+returns-8 : tie.Need-returns-8
+returns-8 c =
+    let a = c .before .before .before .before .before .before .before .args in
+    changed (a .d) (a .revision) (a .request .now) (a .area .now) (c .before .before .before .enum-told8 .given .1) (ap (λ (x : Thresholds). a .d with-thresholds x) (c .before .before .set .ensures)) refl
+
+returns-9 : tie.Need-returns-9
+returns-9 c = let a = c .before .before .before .before .args in changed (a .d) (a .revision) (a .request .now) (a .area .now) (c .enum-told9 .given .1) refl refl
+
+returns-10 : tie.Need-returns-10
+returns-10 c =
+    let a = c .before .before .before .before .before .before .before .before .args in
+    changed (a .d) (a .revision) (a .request .now) (a .area .now) (c .before .before .before .before .enum-told10 .given .1)
+    (ap (λ (x : Security). a .d with-security x) (c .before .before .set-passphrase .ensures ∙ ap (setPassphraseChange (a .d .security)) (rest 32 (a .request .now)))) refl
+
+returns-11 : tie.Need-returns-11
+returns-11 c =
+    let a = c .before .before .before .before .before .before .before .args in
+    changed (a .d) (a .revision) (a .request .now) (a .area .now) (c .before .before .before .enum-told11 .given .1) (ap (λ (x : Security). a .d with-security x) (c .before .before .disable .ensures)) refl
+
+returns-12 : tie.Need-returns-12
+returns-12 c =
+    let a = c .before .before .before .before .before .before .before .args in
+    changed (a .d) (a .revision) (a .request .now) (a .area .now) (c .before .before .before .enum-told12 .given .1) (ap (λ (x : Security). a .d with-security x) (c .before .before .unlock .ensures)) refl
+
+returns-13 : tie.Need-returns-13
+returns-13 c =
+    let a = c .before .before .before .before .before .before .before .args in
+    changed (a .d) (a .revision) (a .request .now) (a .area .now) (c .before .before .before .enum-told13 .given .1) (ap (λ (x : Security). a .d with-security x) (c .before .before .freeze .ensures)) refl
+
+returns-14 : tie.Need-returns-14
+returns-14 c = let a = c .before .before .before .before .args in changed (a .d) (a .revision) (a .request .now) (a .area .now) (c .enum-told14 .given .1) refl refl
+
+pub change-spec : {M : Type 1} → statement M
+change-spec =
+    tie.close
+    (tie.spec
+    enum-told
+    enum-told-2
+    enum-told-3
+    enum-told-4
+    start-requires
+    enum-told-5
+    send-requires
+    enum-told-6
+    finish-requires
+    enum-told-7
+    enum-told-8
+    set-requires
+    enum-told-9
+    enum-told-10
+    sub-set-passphrase
+    part-set-passphrase-start
+    part-set-passphrase-end
+    set-passphrase-requires
+    enum-told-11
+    disable-requires
+    enum-told-12
+    unlock-requires
+    enum-told-13
+    freeze-requires
+    enum-told-14
+    returns
+    returns-2
+    returns-3
+    returns-4
+    same-length
+    returns-5
+    returns-6
+    returns-7
+    returns-8
+    returns-9
+    returns-10
+    returns-11
+    returns-12
+    returns-13
+    returns-14)

@@ -1,0 +1,176 @@
+-- `call_checks::judge_function` meets its contract. Each arm judges the function that it names.
+-- Assumes nothing.
+use mathlib.Core.Path.{refl, sym}
+use native.Mathlib.Omega.{arith}
+use lib.ListN.{length}
+use lib.Seq.{length-take-le}
+use Rattle.rules.specs.Refusals.{verdict}
+use Rattle.rules.proofs.Told.{there, judged}
+use borrow.Author.Needs.{needs}
+use Rattle.call_checks.proofs.judge_function.Statement.{statement}
+use Rattle.call_checks.proofs.judge_function.Tie as tie
+
+enum-told : tie.Need-enum-told
+enum-told c = search needs
+
+enum-told-2 : tie.Need-enum-told-2
+enum-told-2 c = search needs
+
+enum-told-3 : tie.Need-enum-told-3
+enum-told-3 c = search needs
+
+enum-told-4 : tie.Need-enum-told-4
+enum-told-4 c = search needs
+
+judge-start-requires : tie.Need-judge-start-requires
+judge-start-requires c κs = search needs
+
+enum-told-5 : tie.Need-enum-told-5
+enum-told-5 c = search needs
+
+judge-send-requires : tie.Need-judge-send-requires
+judge-send-requires c κs = let k = c .before .before .before in there (length (k .args .request .now)) (c .enum-told5 .given .1) (k .pre)
+
+enum-told-6 : tie.Need-enum-told-6
+enum-told-6 c = search needs
+
+judge-finish-requires : tie.Need-judge-finish-requires
+judge-finish-requires c κs = let k = c .before .before .before in there (length (k .args .request .now)) (c .enum-told6 .given .1) (k .pre)
+
+enum-told-7 : tie.Need-enum-told-7
+enum-told-7 c = search needs
+
+judge-query-requires : tie.Need-judge-query-requires
+judge-query-requires c κs = let k = c .before .before .before in there (length (k .args .request .now)) (c .enum-told7 .given .1) (k .pre)
+
+enum-told-8 : tie.Need-enum-told-8
+enum-told-8 c = search needs
+
+judge-set-requires : tie.Need-judge-set-requires
+judge-set-requires c κs = let k = c .before .before .before in there (length (k .args .request .now)) (c .enum-told8 .given .1) (k .pre)
+
+enum-told-9 : tie.Need-enum-told-9
+enum-told-9 c = search needs
+
+enum-told-10 : tie.Need-enum-told-10
+enum-told-10 c = search needs
+
+slice-aggregate-judge-set-passphrase : tie.Need-slice-aggregate-judge-set-passphrase
+slice-aggregate-judge-set-passphrase c =
+    let k = c .before .before .before .before in
+    let h = there (length (k .args .request .now)) (c .before .enum-told10 .given .1) (k .pre) in
+    sym (length-take-le 32 (k .args .request .now) (omega arith))
+
+judge-set-passphrase-requires : tie.Need-judge-set-passphrase-requires
+judge-set-passphrase-requires c κs = search needs
+
+enum-told-11 : tie.Need-enum-told-11
+enum-told-11 c = search needs
+
+judge-disable-requires : tie.Need-judge-disable-requires
+judge-disable-requires c κs = search needs
+
+enum-told-12 : tie.Need-enum-told-12
+enum-told-12 c = search needs
+
+judge-unlock-requires : tie.Need-judge-unlock-requires
+judge-unlock-requires c κs = search needs
+
+enum-told-13 : tie.Need-enum-told-13
+enum-told-13 c = search needs
+
+judge-freeze-requires : tie.Need-judge-freeze-requires
+judge-freeze-requires c κs = search needs
+
+enum-told-14 : tie.Need-enum-told-14
+enum-told-14 c = search needs
+
+returns : tie.Need-returns
+unfolding verdict
+returns c = let a = c .before .before .before .args in judged (a .d) (a .revision) (a .request .now) (c .enum-told .given .1) refl
+
+returns-2 : tie.Need-returns-2
+unfolding verdict
+returns-2 c = let a = c .before .before .before .args in judged (a .d) (a .revision) (a .request .now) (c .enum-told2 .given .1) refl
+
+returns-3 : tie.Need-returns-3
+unfolding verdict
+returns-3 c = let a = c .before .before .before .args in judged (a .d) (a .revision) (a .request .now) (c .enum-told3 .given .1) refl
+
+returns-4 : tie.Need-returns-4
+returns-4 c = let a = c .before .before .before .before .args in judged (a .d) (a .revision) (a .request .now) (c .before .enum-told4 .given .1) (c .judge-start .ensures)
+
+returns-5 : tie.Need-returns-5
+returns-5 c = let a = c .before .before .before .before .args in judged (a .d) (a .revision) (a .request .now) (c .before .enum-told5 .given .1) (c .judge-send .ensures)
+
+returns-6 : tie.Need-returns-6
+returns-6 c = let a = c .before .before .before .before .args in judged (a .d) (a .revision) (a .request .now) (c .before .enum-told6 .given .1) (c .judge-finish .ensures)
+
+returns-7 : tie.Need-returns-7
+returns-7 c = let a = c .before .before .before .before .args in judged (a .d) (a .revision) (a .request .now) (c .before .enum-told7 .given .1) (c .judge-query .ensures)
+
+returns-8 : tie.Need-returns-8
+returns-8 c = let a = c .before .before .before .before .args in judged (a .d) (a .revision) (a .request .now) (c .before .enum-told8 .given .1) (c .judge-set .ensures)
+
+returns-9 : tie.Need-returns-9
+unfolding verdict
+returns-9 c = let a = c .before .before .before .args in judged (a .d) (a .revision) (a .request .now) (c .enum-told9 .given .1) refl
+
+returns-10 : tie.Need-returns-10
+returns-10 c = let a = c .before .before .before .before .before .args in judged (a .d) (a .revision) (a .request .now) (c .before .before .enum-told10 .given .1) (c .judge-set-passphrase .ensures)
+
+returns-11 : tie.Need-returns-11
+returns-11 c = let a = c .before .before .before .before .args in judged (a .d) (a .revision) (a .request .now) (c .before .enum-told11 .given .1) (c .judge-disable .ensures)
+
+returns-12 : tie.Need-returns-12
+returns-12 c = let a = c .before .before .before .before .args in judged (a .d) (a .revision) (a .request .now) (c .before .enum-told12 .given .1) (c .judge-unlock .ensures)
+
+returns-13 : tie.Need-returns-13
+returns-13 c = let a = c .before .before .before .before .args in judged (a .d) (a .revision) (a .request .now) (c .before .enum-told13 .given .1) (c .judge-freeze .ensures)
+
+returns-14 : tie.Need-returns-14
+unfolding verdict
+returns-14 c = let a = c .before .before .before .args in judged (a .d) (a .revision) (a .request .now) (c .enum-told14 .given .1) refl
+
+pub judge-function-spec : {M : Type 1} → statement M
+judge-function-spec =
+    tie.close
+    (tie.spec
+    enum-told
+    enum-told-2
+    enum-told-3
+    enum-told-4
+    judge-start-requires
+    enum-told-5
+    judge-send-requires
+    enum-told-6
+    judge-finish-requires
+    enum-told-7
+    judge-query-requires
+    enum-told-8
+    judge-set-requires
+    enum-told-9
+    enum-told-10
+    slice-aggregate-judge-set-passphrase
+    judge-set-passphrase-requires
+    enum-told-11
+    judge-disable-requires
+    enum-told-12
+    judge-unlock-requires
+    enum-told-13
+    judge-freeze-requires
+    enum-told-14
+    returns
+    returns-2
+    returns-3
+    returns-4
+    returns-5
+    returns-6
+    returns-7
+    returns-8
+    returns-9
+    returns-10
+    returns-11
+    returns-12
+    returns-13
+    returns-14)

@@ -1,0 +1,56 @@
+-- `call_checks::judge_gate` meets its contract. R1, then R2 and R3, then the table.
+-- Assumes nothing.
+use mathlib.Core.Path.{sym, _∙_}
+use mathlib.Core.List.{[], _∷_, _++_}
+use lib.ListN.{length}
+use Rattle.rules.specs.Tests.{_<?_}
+use Rattle.rules.specs.Refusals.{verdict, eventChecks}
+use Rattle.rules.specs.Table.{servedCheck, lengthCheck}
+use Rattle.rules.specs.declared.Refusal.the-variants.{R}
+use Rattle.call_checks.proofs.Joined.{stands, decides, passed-by}
+use mathlib.Core.Path.{sym, _∙_}
+use borrow.Author.Needs.{needs}
+use Rattle.call_checks.proofs.judge_gate.Statement.{statement}
+use Rattle.call_checks.proofs.judge_gate.Tie as tie
+
+returns : tie.Need-returns
+unfolding verdict
+returns c = simp (c .if1 .taken)
+
+judge-event-requires : tie.Need-judge-event-requires
+judge-event-requires c κs = search needs
+
+enum-known-event : tie.Need-enum-known-event
+enum-known-event c = search needs
+
+enum-told : tie.Need-enum-told
+enum-told c = search needs
+
+judge-table-requires : tie.Need-judge-table-requires
+judge-table-requires c κs = search needs
+
+returns-2 : tie.Need-returns-2
+returns-2 c =
+    let a = c .before .before .before .before .before .before .before .before .args in
+    let rows = servedCheck (a .revision) (a .index) ∷ lengthCheck (a .index) (a .request .now) ∷ [] in
+    stands (eventChecks (a .d) (a .area .now)) rows (sym (c .before .before .before .judge-event .ensures) ∙ c .before .event .given .1)
+    ∙ sym (passed-by (length (a .answer .now) <? 64) (R 1) (eventChecks (a .d) (a .area .now) ++ rows) (c .before .before .before .before .if1 .left))
+
+returns-3 : tie.Need-returns-3
+returns-3 c =
+    let a = c .before .before .before .before .before .before .before .before .args in
+    let rows = servedCheck (a .revision) (a .index) ∷ lengthCheck (a .index) (a .request .now) ∷ [] in
+    decides (eventChecks (a .d) (a .area .now)) rows (sym (c .before .before .before .judge-event .ensures) ∙ c .before .enum-told .given .1) (c .judge-table .ensures)
+    ∙ sym (passed-by (length (a .answer .now) <? 64) (R 1) (eventChecks (a .d) (a .area .now) ++ rows) (c .before .before .before .before .if1 .left))
+
+pub judge-gate-spec : {M : Type 1} → statement M
+judge-gate-spec =
+    tie.close
+    (tie.spec
+    returns
+    judge-event-requires
+    enum-known-event
+    enum-told
+    judge-table-requires
+    returns-2
+    returns-3)

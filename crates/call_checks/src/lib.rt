@@ -1,0 +1,118 @@
+// Order: R1, R2, R3, status 1, request length, then each function's checks as listed.
+ghost use mathlib.Core.Path.{_≡_};
+ghost use mathlib.Core.List.{[], _∷_};
+ghost use lib.ListN.{length};
+ghost use Rattle.rules.specs.Refusals.{verdict};
+ghost use Rattle.rules.specs.Table.{rowOf, fits?, servedCheck, lengthCheck};
+ghost use Rattle.rules.specs.Module.{callOf, checks, gateChecks, callChecks};
+ghost use Rattle.rules.proofs.Fitting.{Fitting};
+use rules::Device;
+use rules::Function;
+use rules::Refusal;
+use rules::Row;
+use rules::Verdict;
+
+// The request has the row's length.
+fn fits(row: Row, request: &[u8]) -> bool
+    ensures { λ r. ⌜ r ≡ fits? row (now (request .entry)) ⌝ }
+{
+    let size = request.len();
+    let least = row.request <= size;
+    let exact = size == row.request;
+    let more = row.more;
+    if more {
+        return least;
+    }
+    exact
+}
+
+// Status 1, then the request's length.
+fn judge_table(revision: u64, index: u64, row: Row, request: &[u8]) -> Verdict
+    requires { ⌜ row ≡ rowOf index ⌝ }
+    ensures { λ r. ⌜ r ≡ verdict (servedCheck revision index ∷ lengthCheck index (now (request .entry)) ∷ []) ⌝ }
+{
+    let since = row.since as u64;
+    let served = (since <= revision) & (revision <= 2);
+    let unserved = !served & !(index == 0);
+    let fits = fits(row, request);
+    if unserved {
+        return Verdict::Refused(Refusal::Status { status: 1, ext: 0 });
+    }
+    if !fits {
+        return Verdict::Refused(Refusal::Status { status: 3, ext: 0 });
+    }
+    Verdict::Accepted
+}
+
+// R1, R2, R3, status 1, request length.
+fn judge_gate(
+    d: Device,
+    area: &[u8],
+    revision: u64,
+    index: u64,
+    row: Row,
+    request: &[u8],
+    answer: &[u8],
+) -> Verdict
+    requires { ⌜ row ≡ rowOf index ⌝ }
+    ensures { λ r. ⌜ r ≡ verdict (gateChecks d (now (area .entry)) revision index (now (request .entry)) (now (answer .entry))) ⌝ }
+{
+    let short = answer.len() < 64;
+    if short {
+        return Verdict::Refused(Refusal::R { number: 1 });
+    }
+    let event = record::judge_event(d, area);
+    match event {
+        Verdict::Refused(refusal) => Verdict::Refused(refusal),
+        Verdict::Accepted => judge_table(revision, index, row, request),
+    }
+}
+
+// The function's own checks.
+fn judge_function(d: Device, function: Function, revision: u64, request: &[u8]) -> Verdict
+    requires { ⌜ Fitting function (length (now request)) ⌝ }
+    ensures { λ r. ⌜ r ≡ verdict (checks d (callOf function revision (now (request .entry)))) ⌝ }
+{
+    match function {
+        Function::Mask => Verdict::Accepted,
+        Function::GetThreshold => Verdict::Accepted,
+        Function::GetFwInfo => Verdict::Accepted,
+        Function::Start => transfer_checks::judge_start(d.transfer),
+        Function::Send => transfer_checks::judge_send(d.transfer, request),
+        Function::Finish => transfer_checks::judge_finish(d.transfer, request),
+        Function::Query => transfer_checks::judge_query(d.transfer, request),
+        Function::SetThreshold => thresholds::judge_set(request),
+        Function::GetSecurityState => Verdict::Accepted,
+        Function::SetPassphrase => security::checks::judge_set_passphrase(
+            d.security,
+            &request[..32],
+        ),
+        Function::Disable => security::checks::judge_disable(d.security, request),
+        Function::Unlock => security::checks::judge_unlock(d.security, request),
+        Function::Freeze => security::checks::judge_freeze(d.security),
+        Function::Unserved => Verdict::Accepted,
+    }
+}
+
+// All checks of a call.
+pub fn judge(
+    d: Device,
+    area: &[u8],
+    revision: u64,
+    index: u64,
+    row: Row,
+    request: &[u8],
+    answer: &[u8],
+) -> Verdict
+    requires { ⌜ row ≡ rowOf index ⌝ }
+    ensures { λ r. ⌜ r ≡ verdict (callChecks d (now (area .entry)) revision index (now (request .entry)) (now (answer .entry))) ⌝ }
+{
+    let gate = judge_gate(d, area, revision, index, row, request, answer);
+    match gate {
+        Verdict::Refused(refusal) => Verdict::Refused(refusal),
+        Verdict::Accepted => {
+            let function = row.function;
+            judge_function(d, function, revision, request)
+        }
+    }
+}

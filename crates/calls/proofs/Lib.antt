@@ -1,4 +1,0 @@
-pub mod Fits
-pub mod Joined
-pub mod Status
-pub mod Told

@@ -1,0 +1,87 @@
+-- Every row of the table: a request of its length has the bytes that its function reads, and its answer has 4 to 44 bytes.
+-- Assumes nothing.
+use mathlib.Core.Path.{_≡_}
+use mathlib.Core.Bool.{true}
+use mathlib.Core.List.{List}
+use Prim.Native.Nat.{ℕ, _≤_}
+use lib.Dec.{lit≤}
+use lib.ListN.{length}
+use borrow.Author.Tests.{eqb-true, leb-true}
+use Rattle.rules.specs.Tests.{_=?_}
+use Rattle.rules.specs.Table.{table, rowOf, fits?}
+use Rattle.rules.specs.Refusals.{verdict}
+use Rattle.rules.specs.Module.{gateChecks}
+use Rattle.rules.specs.declared.Row.{Row}
+use Rattle.rules.specs.declared.Device.{Device}
+use Rattle.rules.specs.declared.Verdict.the-variants.{Accepted}
+use Rattle.rules.proofs.Rows.{looked-up}
+use Rattle.rules.proofs.Passed.{passed}
+use Rattle.rules.proofs.Accepted.{not-false}
+use Rattle.rules.specs.declared.Function.{Function}
+use Rattle.rules.specs.declared.Function.the-variants.{Mask, GetThreshold, GetFwInfo, Start, Send, Finish, Query, SetThreshold, GetSecurityState, SetPassphrase, Disable, Unlock, Freeze, Unserved}
+
+-- what the table's request lengths say of each function: the bytes that it reads are there
+abbrev pub Fitting : Function → (size : ℕ) → Type 0
+Fitting Mask size = Unit {0}
+Fitting GetThreshold size = Unit {0}
+Fitting GetFwInfo size = Unit {0}
+Fitting Start size = Unit {0}
+Fitting Send size = 12 ≤ size
+Fitting Finish size = size ≡ 8
+Fitting Query size = size ≡ 4
+Fitting SetThreshold size = size ≡ 7
+Fitting GetSecurityState size = Unit {0}
+Fitting SetPassphrase size = size ≡ 64
+Fitting Disable size = Unit {0}
+Fitting Unlock size = Unit {0}
+Fitting Freeze size = Unit {0}
+Fitting Unserved size = Unit {0}
+
+abbrev Fit : Row → Type 0
+Fit row = (request : List ℕ) → fits? row request ≡ true → Fitting (row .function) (length request)
+
+exactly : (n : ℕ) (request : List ℕ) → (length request =? n) ≡ true → length request ≡ n
+exactly n request e = eqb-true (length request) n e
+
+pub fitting : (index : ℕ) (request : List ℕ) → fits? (rowOf index) request ≡ true → Fitting (rowOf index .function) (length request)
+unfolding rowOf fits?
+fitting index =
+    looked-up Fit index table (
+      λ q e. tt,
+      (
+        λ q e. tt,
+        (
+          λ q e. tt,
+          (
+            λ q e. tt,
+            (
+              λ q e. leb-true 12 (length q) e,
+              (
+                exactly 8,
+                (
+                  exactly 4,
+                  (
+                    exactly 7,
+                    (λ q e. tt, (exactly 64, (λ q e. tt, (λ q e. tt, (λ q e. tt, λ q e. tt))))),
+                  ),
+                ),
+              ),
+            ),
+          ),
+        ),
+      ),
+    )
+
+abbrev Answers : Row → Type 0
+Answers row = (4 ≤ row .answer) × (row .answer ≤ 44)
+
+pub answers : (index : ℕ) → Answers (rowOf index)
+unfolding rowOf
+answers index = looked-up Answers index table
+    ((lit≤ tt, lit≤ tt), ((lit≤ tt, lit≤ tt), ((lit≤ tt, lit≤ tt), ((lit≤ tt, lit≤ tt), ((lit≤ tt, lit≤ tt), ((lit≤ tt, lit≤ tt), ((lit≤ tt, lit≤ tt), ((lit≤ tt, lit≤ tt), ((lit≤ tt, lit≤ tt), ((lit≤ tt, lit≤ tt), ((lit≤ tt, lit≤ tt), ((lit≤ tt, lit≤ tt), ((lit≤ tt, lit≤ tt), (lit≤ tt, lit≤ tt))))))))))))))
+
+-- a request that passed the gate has the bytes that its function reads
+pub gate-fits : (d : Device) (area : List ℕ) (revision index : ℕ) (request answer : List ℕ)
+    → verdict (gateChecks d area revision index request answer) ≡ Accepted → Fitting (rowOf index .function) (length request)
+gate-fits d area revision index request answer e =
+    fitting index request (not-false (fits? (rowOf index) request) (passed (gateChecks d area revision index request answer) e .1 .1 .1 .1 .0))

@@ -1,0 +1,142 @@
+"""What the checks under tests/ share: the independent program, the proved programs, and their texts."""
+import os
+import pathlib
+import shutil
+import subprocess
+import sys
+
+ROOT = pathlib.Path(__file__).resolve().parent.parent
+STORIES = ROOT / "tests" / "stories"
+HEADING = b"record kind status ext length\n"
+
+# The two texts: the word for the independent program, and the crate of the proved one.
+PROGRAMS = {"replay": "replays", "answers": "answers"}
+
+
+class Unready(Exception):
+    """Something that a check needs is not there. The check ends with status 2."""
+
+
+def environment():
+    """Without QEMU_*, which the kit's emulator would take as options."""
+    return {name: value for name, value in os.environ.items() if not name.startswith("QEMU_")}
+
+
+def independent(folder):
+    """Builds the independent program by the system's cc, and gives its path."""
+    build = ROOT / "tests" / "independent" / "build"
+    done = subprocess.run([str(build), str(folder)], stdout=subprocess.PIPE, stderr=subprocess.STDOUT)
+    if done.returncode:
+        raise Unready(f"tests/independent/build failed:\n{done.stdout.decode(errors='replace')}")
+    return os.path.join(folder, "independent")
+
+
+# ---- The kit ----
+
+def kit():
+    """The kit's folder of this machine."""
+    rt = shutil.which("rt")
+    if not rt:
+        raise Unready("rt, of the Rattle kit, is not on the PATH")
+    page = subprocess.run([rt, "doc"], stdout=subprocess.PIPE, check=True).stdout.decode().strip()
+    return pathlib.Path(page).parent.parent / "on" / os.uname().machine
+
+
+def emulator():
+    """The kit's emulator, or None on x86-64."""
+    path = kit() / "toolchain" / "bin" / "qemu-x86_64"
+    return path if os.access(path, os.X_OK) else None
+
+
+def runner():
+    """The words before a proved program, as BENCH says: emulator if there is one, the kit's loader and C library."""
+    lib = kit() / "toolchain" / "lib"
+    words = [str(emulator())] if emulator() else []
+    return words + [str(lib / "ld-linux-x86-64.so.2"), "--library-path", str(lib)]
+
+
+def proved(name, folder=None):
+    """The command of the proved program of a text, from target/bin or another folder."""
+    crate = PROGRAMS[name]
+    path = pathlib.Path(folder or ROOT / "target" / "bin") / crate
+    if not path.is_file():
+        raise Unready(f"{path} is not there: 'rt check {crate}' builds it")
+    if folder is None:
+        sources = [ROOT / "crates.txt", *(ROOT / "crates").rglob("*")]
+        if max(source.stat().st_mtime for source in sources if source.exists()) > path.stat().st_mtime:
+            print(f"note: something under crates/ is newer than {path}; 'rt check {crate}' builds it again", file=sys.stderr)
+    return runner() + [str(path)]
+
+
+def stand_in(name, folder):
+    """Builds the independent program by the kit's clang at -O2 as a program of one text, and gives its path: like a proved
+    program it takes logs alone, ends with status 0, and is for x86-64 on every machine."""
+    own, here = kit(), ROOT / "tests"
+    target = ["--target=x86_64-unknown-linux-gnu"]
+    compile_words = [str(own / "toolchain" / "bin" / "clang"), *target, "-O2", "-std=c99", "-DNO_HEADERS", f'-DTEXT="{name}"',
+                     "-isystem", str(here / "clang"), "-c"]
+    objects = []
+    for source, more in (("independent/module.c", []), ("independent/replay.c", ["-Dmain=independent_main"]),
+                         ("clang/stand_in.c", [])):
+        objects.append(os.path.join(folder, f"{name}-{pathlib.Path(source).stem}.o"))
+        finish([*compile_words, *more, str(here / source), "-o", objects[-1]])
+    path = os.path.join(folder, PROGRAMS[name])
+    finish([str(own / "bin" / "rattle-link"), "--target", "x86_64-unknown-linux-gnu", "--toolchain", str(own / "toolchain"),
+            "-o", path, *objects])
+    return path
+
+
+def finish(command):
+    done = subprocess.run(command, stdout=subprocess.PIPE, stderr=subprocess.STDOUT)
+    if done.returncode:
+        raise Unready(f"{os.path.basename(command[0])} failed:\n{done.stdout.decode(errors='replace')}")
+
+
+# ---- Texts ----
+
+def run(command, logs, stdin=None, cwd=None):
+    """What the program wrote, what it said, and its exit status."""
+    with open(stdin or os.devnull, "rb") as file:
+        done = subprocess.run([*command, *map(str, logs)], stdin=file, stdout=subprocess.PIPE, stderr=subprocess.PIPE,
+                              cwd=cwd, env=environment())
+    return done.stdout, done.stderr, done.returncode
+
+
+def texts(name, output):
+    """Cuts what was written for several logs into the text of each: a replay begins with the heading, answers end with
+    the line of the area."""
+    parts = []
+    for line in output.splitlines(keepends=True):
+        begins = line == HEADING if name == "replay" else not parts or parts[-1][-1].startswith(b"area ")
+        if begins or not parts:
+            parts.append([])
+        parts[-1].append(line)
+    return [b"".join(part) for part in parts]
+
+
+def first_difference(one, other):
+    """The number of the first line that differs, from 1, and that line on both sides."""
+    ones, others = one.splitlines(), other.splitlines()
+    for number in range(max(len(ones), len(others)) + 1):
+        left = ones[number] if number < len(ones) else None
+        right = others[number] if number < len(others) else None
+        if left != right or left is None:
+            return number + 1, left, right
+    return None
+
+
+def cut(line, most=160):
+    """A line for a message."""
+    if line is None:
+        return "(no line)"
+    text = line.decode(errors="backslashreplace")
+    return text if len(text) <= most else f"{text[:most]}.. ({len(text)} characters)"
+
+
+def where_lines_part(left, right, around=60):
+    """Two long lines from a little before their first difference on."""
+    if left is None or right is None or max(len(left), len(right)) <= 160:
+        return cut(left), cut(right)
+    at = next((i for i, (a, b) in enumerate(zip(left, right)) if a != b), min(len(left), len(right)))
+    at = max(0, at - 20)
+    return tuple(f"{line.split(b' ')[0].decode()} .. from character {at}: {line[at:at + around].decode()} .." for line in (left, right))
