@@ -1,4 +1,5 @@
 """What the checks under tests/ share: the independent program, the proved programs, and their texts."""
+import functools
 import os
 import pathlib
 import shutil
@@ -23,23 +24,33 @@ def environment():
 
 
 def independent(folder):
-    """Builds the independent program by the system's cc, and gives its path."""
-    build = ROOT / "tests" / "independent" / "build"
-    done = subprocess.run([str(build), str(folder)], stdout=subprocess.PIPE, stderr=subprocess.STDOUT)
+    """Builds the independent program, and gives the words that start it: by the system's cc, or where there is none by the
+    kit's clang."""
+    os.makedirs(folder, exist_ok=True)
+    if not shutil.which("cc"):
+        return [*runner(), by_clang(folder, "independent", [("independent/module.c", []), ("independent/replay.c", [])])]
+    finish([str(ROOT / "tests" / "independent" / "build"), str(folder)])
+    return [os.path.join(folder, "independent")]
+
+
+def finish(command):
+    done = subprocess.run(command, stdout=subprocess.PIPE, stderr=subprocess.STDOUT)
     if done.returncode:
-        raise Unready(f"tests/independent/build failed:\n{done.stdout.decode(errors='replace')}")
-    return os.path.join(folder, "independent")
+        raise Unready(f"{os.path.basename(command[0])} failed:\n{done.stdout.decode(errors='replace')}")
 
 
 # ---- The kit ----
 
+@functools.lru_cache(maxsize=None)
 def kit():
     """The kit's folder of this machine."""
     rt = shutil.which("rt")
     if not rt:
         raise Unready("rt, of the Rattle kit, is not on the PATH")
-    page = subprocess.run([rt, "doc"], stdout=subprocess.PIPE, check=True).stdout.decode().strip()
-    return pathlib.Path(page).parent.parent / "on" / os.uname().machine
+    done = subprocess.run([rt, "doc"], stdout=subprocess.PIPE)
+    if done.returncode:
+        raise Unready("rt doc failed")
+    return pathlib.Path(done.stdout.decode().strip()).parent.parent / "on" / os.uname().machine
 
 
 def emulator():
@@ -49,7 +60,7 @@ def emulator():
 
 
 def runner():
-    """The words before a proved program, as BENCH says: emulator if there is one, the kit's loader and C library."""
+    """The words before a proved program: the emulator if there is one, and the kit's loader with its C library."""
     lib = kit() / "toolchain" / "lib"
     words = [str(emulator())] if emulator() else []
     return words + [str(lib / "ld-linux-x86-64.so.2"), "--library-path", str(lib)]
@@ -68,37 +79,34 @@ def proved(name, folder=None):
     return runner() + [str(path)]
 
 
-def stand_in(name, folder):
-    """Builds the independent program by the kit's clang at -O2 as a program of one text, and gives its path: like a proved
-    program it takes logs alone, ends with status 0, and is for x86-64 on every machine."""
-    own, here = kit(), ROOT / "tests"
-    target = ["--target=x86_64-unknown-linux-gnu"]
-    compile_words = [str(own / "toolchain" / "bin" / "clang"), *target, "-O2", "-std=c99", "-DNO_HEADERS", f'-DTEXT="{name}"',
-                     "-isystem", str(here / "clang"), "-c"]
-    objects = []
-    for source, more in (("independent/module.c", []), ("independent/replay.c", ["-Dmain=independent_main"]),
-                         ("clang/stand_in.c", [])):
+def by_clang(folder, name, sources):
+    """Builds C for x86-64 by the kit's clang at -O2, and gives the program's path. The C library's declarations are those of
+    tests/clang. Sources are named from tests/ on, each with its own options."""
+    own, here, objects = kit(), ROOT / "tests", []
+    words = [str(own / "toolchain" / "bin" / "clang"), "--target=x86_64-unknown-linux-gnu", "-O2", "-std=c99", "-DNO_HEADERS",
+             "-isystem", str(here / "clang")]
+    for source, options in sources:
         objects.append(os.path.join(folder, f"{name}-{pathlib.Path(source).stem}.o"))
-        finish([*compile_words, *more, str(here / source), "-o", objects[-1]])
-    path = os.path.join(folder, PROGRAMS[name])
+        finish([*words, *options, "-c", str(here / source), "-o", objects[-1]])
+    path = os.path.join(folder, name)
     finish([str(own / "bin" / "rattle-link"), "--target", "x86_64-unknown-linux-gnu", "--toolchain", str(own / "toolchain"),
             "-o", path, *objects])
     return path
 
 
-def finish(command):
-    done = subprocess.run(command, stdout=subprocess.PIPE, stderr=subprocess.STDOUT)
-    if done.returncode:
-        raise Unready(f"{os.path.basename(command[0])} failed:\n{done.stdout.decode(errors='replace')}")
+def stand_in(name, folder):
+    """Builds the independent program as a program of one text: like a proved program it takes logs alone and ends with
+    status 0."""
+    return by_clang(folder, PROGRAMS[name], [("independent/module.c", []), ("independent/replay.c", ["-Dmain=independent_main"]),
+                                             ("clang/stand_in.c", [f'-DTEXT="{name}"'])])
 
 
 # ---- Texts ----
 
 def run(command, logs, stdin=None, cwd=None):
-    """What the program wrote, what it said, and its exit status."""
-    with open(stdin or os.devnull, "rb") as file:
-        done = subprocess.run([*command, *map(str, logs)], stdin=file, stdout=subprocess.PIPE, stderr=subprocess.PIPE,
-                              cwd=cwd, env=environment())
+    """What the program wrote, what it said, and its exit status. The file stdin comes through a pipe."""
+    done = subprocess.run([*command, *map(str, logs)], input=pathlib.Path(stdin).read_bytes() if stdin else b"",
+                          stdout=subprocess.PIPE, stderr=subprocess.PIPE, cwd=cwd, env=environment())
     return done.stdout, done.stderr, done.returncode
 
 

@@ -32,3 +32,7 @@ and-6 a b c d e f h =
     let r = and-true (a && b && c) d (q .0) in
     let s = and-3 a b c (r .0) in
     (s .0, s .1, s .2, r .1, q .1, p .1)
+
+pub or-true : (a b : Bool) → b ≡ true → (a || b) ≡ true
+or-true true b e = refl
+or-true false b e = e

@@ -15,4 +15,11 @@ pub mod Module
 pub mod Log
 pub mod Replay
 pub mod Cases
+-- Demand 1.
 pub mod Demand1
+-- Demand 3, over histories.
+pub mod History
+pub mod Transfers
+pub mod Sends
+pub mod Moves
+pub mod Demand

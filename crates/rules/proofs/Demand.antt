@@ -1,0 +1,113 @@
+-- Demand 3: the theorem, and what of it holds from every sound module.
+-- Assumes nothing.
+use Prim.Native.Nat.{ℕ}
+use mathlib.Core.Path.{_≡_, refl, sym, _∙_, subst}
+use mathlib.Core.List.{List, []}
+use lib.ListN.{length}
+use Rattle.rules.specs.Numbers.{areaSize}
+use Rattle.rules.specs.Module.{Module, Event, tick}
+use Rattle.rules.specs.History.{log, end, All}
+use Rattle.rules.specs.Transfers.{machine, History, none, AllInTurn}
+use Rattle.rules.specs.Demand.{freshWith, struck, StrikeOut, Stages, Due, StagedExactly, Demand, Sound, FromAnywhere, WithAnyHosts}
+use Rattle.rules.proofs.Joining.{plays-log}
+use Rattle.rules.proofs.Struck.{strike-out}
+use Rattle.rules.proofs.Parts.{storeOf, inner}
+use Rattle.rules.proofs.Possible.{sound-fresh, sound-end}
+use Rattle.rules.proofs.Gate.{Remains, Inward, inwards}
+use Rattle.rules.proofs.Moved.{move}
+use Rattle.rules.proofs.Unbroken.{all-moved}
+use Rattle.rules.proofs.Honest.{all-remains, honest-struck}
+use Rattle.rules.proofs.Turn.{turns, hosts-fresh}
+use Rattle.rules.proofs.Pieces.{received, own-pieces}
+use Rattle.rules.proofs.Stage.{Ripe, stages-ripe, ripe-stages, staged-once}
+use Rattle.rules.proofs.Due.{ripe-due, due-ripe}
+
+-- From every sound module, and with hosts that use any context.
+pub from-anywhere : (m : Module) → Sound m → (events : List Event) → FromAnywhere m (log machine m events)
+from-anywhere m w events =
+    record { strike-out = st; move = move m (struck h) w (st .plays) (all-remains h); all-moved = all-moved m (struck h) w (st .plays) (all-remains h); staged-once = staged-once m h w }
+  where
+    h : History
+    h = log machine m events
+
+    st : StrikeOut m h
+    st = strike-out m h (plays-log machine m events)
+
+-- From a fresh module, and with hosts that use any context.
+pub with-any-hosts : (area : List ℕ) → length area ≡ areaSize → (events : List Event) → WithAnyHosts (freshWith area) (log machine (freshWith area) events)
+with-any-hosts area size events = record { received = λ f. received m r f w refl (st .plays) k; staged-exactly = staging }
+  where
+    m : Module
+    m = freshWith area
+
+    h : History
+    h = log machine m events
+
+    r : History
+    r = struck h
+
+    w : Sound m
+    w = sound-fresh area size
+
+    k : All Remains r
+    k = all-remains h
+
+    st : StrikeOut m h
+    st = strike-out m h (plays-log machine m events)
+
+    into : Inward m r
+    into = inwards m r w (st .plays) k
+
+    same-end : end inner m r ≡ end machine m h
+    same-end = into .ends ∙ st .ends
+
+    staging : StagedExactly m h
+    staging event version = (forth, back)
+      where
+        forth : Stages (end machine m h) event version → (event ≡ tick) × Due r version
+        forth g =
+            let q = stages-ripe (end machine m h) event version (sound-end m h w) g in
+            (q .0, ripe-due m r version w refl refl (into .plays) k (subst (λ (z : Module). Ripe (storeOf z) version) (sym same-end) (q .1)))
+
+        back : (event ≡ tick) × Due r version → Stages (end machine m h) event version
+        back g =
+            subst (λ (e : Event). Stages (end machine m h) e version) (sym (g .0))
+            (ripe-stages (end machine m h) version (sound-end m h w)
+            (subst (λ (z : Module). Ripe (storeOf z) version) same-end (due-ripe m r version w refl (into .plays) k (g .1))))
+
+-- Demand 3.
+pub demand-3 : Demand
+demand-3 area size events honest =
+    record {
+      strike-out = anywhere .strike-out;
+      one-after-another = in-turn;
+      own-pieces = λ f. own-pieces m r f w (any-hosts .received f) in-turn (anywhere .strike-out .plays) k;
+      move = anywhere .move;
+      all-moved = anywhere .all-moved;
+      staged-exactly = any-hosts .staged-exactly;
+      staged-once = anywhere .staged-once;
+    }
+  where
+    m : Module
+    m = freshWith area
+
+    h : History
+    h = log machine m events
+
+    r : History
+    r = struck h
+
+    w : Sound m
+    w = sound-fresh area size
+
+    anywhere : FromAnywhere m h
+    anywhere = from-anywhere m w events
+
+    any-hosts : WithAnyHosts m h
+    any-hosts = with-any-hosts area size events
+
+    k : All Remains r
+    k = all-remains h
+
+    in-turn : AllInTurn none r
+    in-turn = turns [] none m r w refl (hosts-fresh (storeOf m)) (honest-struck h honest) (inwards m r w (anywhere .strike-out .plays) k .plays) k

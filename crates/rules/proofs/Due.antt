@@ -1,0 +1,268 @@
+-- Staging, both ways: a tick stages a version exactly when the history ends with a good image's Finish and seven ticks.
+-- Assumes nothing.
+use Prim.Native.Nat.{ℕ, _+_, _-_, _≤_, _<_}
+use mathlib.Core.Path.{_≡_, refl, sym, _∙_, ap, subst}
+use mathlib.Core.Bool.{Bool, true, false}
+use mathlib.Core.List.{List, [], _∷_, _++_, append-assoc, append-nil}
+use native.Mathlib.Omega.{arith}
+use borrow.Author.Tests.{eqb-true}
+use Rattle.rules.specs.Tests.{if_then_else_, _=?_}
+use Rattle.rules.specs.Numbers.{verification}
+use Rattle.rules.specs.With.{_with-ticks_, _with-phase_, _with-received_}
+use Rattle.rules.specs.Record.{_is_}
+use Rattle.rules.specs.Image.{imageOf}
+use Rattle.rules.specs.Transfer.{GetFwInfo, Start, Send, Finish, Query, receivedBytes}
+use Rattle.rules.specs.Module.{Module}
+use Rattle.rules.specs.History.{Plays, end, All}
+use Rattle.rules.specs.Transfers.{Answer, Line, History, Kind, Finished, Ticked, Other, kindOf, Open, none, by, sentIn, openAfter}
+use Rattle.rules.specs.Sends.{FinishedIn, tickCount, ticks, powerCount, powerCycles}
+use Rattle.rules.specs.Demand.{remains, Sound, Due}
+use Rattle.rules.specs.declared.Phase.{Phase}
+use Rattle.rules.specs.declared.Phase.the-variants.{Idle, Verifying}
+use Rattle.rules.specs.declared.Transfer.{Transfer}
+use Rattle.rules.proofs.Joining.{plays-right, end-join}
+use Rattle.rules.proofs.Parts.{Store, storeOf, Act, Transfers, Others, Ticks, Powers, act, storeChange, storeNext, storeTick, answers, nexts, inner, actKind}
+use Rattle.rules.proofs.Through.{kind-act}
+use Rattle.rules.proofs.Facts.{never, Kept, accepted-call, changes, send-ok, finish-ok, Tick, calm, counting, good, bad, tick-case}
+use Rattle.rules.proofs.Possible.{sound-act}
+use Rattle.rules.proofs.Gate.{Remains}
+use Rattle.rules.proofs.KindOf.{good-accepted, accepted-good, FinishAct, finished-act}
+use Rattle.rules.proofs.Order.{Fits, InOpen, InOrder, AllInOrder, goes, orders, chosen, bytes-open}
+use Rattle.rules.proofs.Pieces.{open-join, orders-left, AtFinish, at-finish, Opened, opened}
+use Rattle.rules.proofs.Stage.{Ripe, quiet, busy, no-tick}
+
+abbrev bytesOf : Store → List ℕ
+bytesOf s = receivedBytes (s .transfer) (s .area)
+
+-- While it verifies the ticks are counted, and the bytes stay
+record Held (s u : Store) (n : ℕ) : Type 0 where
+  at : u .transfer .phase ≡ Verifying
+  count : u .transfer .ticks + n ≡ s .transfer .ticks
+  bytes : bytesOf u ≡ bytesOf s
+
+held-tick : (s : Store) → s .transfer .phase ≡ Verifying → 1 < s .transfer .ticks → Tick (s .transfer) (s .area) → Held s (storeTick s) 1
+held-tick s p l (calm n e) = never (sym (ap (λ (z : Phase). z is Verifying) p) ∙ n)
+held-tick s p l (counting q k e) =
+    subst (λ (t : Transfer). Held s (record { transfer = t; area = s .area }) 1) (sym e) (record { at = p; count = omega arith; bytes = refl })
+held-tick s p l (good version q k i e) = absurd (omega arith)
+held-tick s p l (bad q k i e) = absurd (omega arith)
+
+held-act : (m : Module) (f : Act) (got : Answer) → m .device .transfer .phase ≡ Verifying → powerCount (actKind f got) ≡ 0 → tickCount (actKind f got) < m .device .transfer .ticks
+    → Held (storeOf m) (storeOf (nexts m f)) (tickCount (actKind f got))
+held-act m (Transfers host a b x n answer) got p z l =
+    subst (λ (u : Store). Held (storeOf m) u (tickCount (actKind (Transfers host a b x n answer) got))) (sym (quiet (storeOf m) a b x (ap busy p)))
+    (record { at = p; count = omega (arith, no-tick host x got); bytes = refl })
+held-act m (Others a b x n answer) got p z l = record { at = p; count = omega arith; bytes = refl }
+held-act m Ticks got p z l = held-tick (storeOf m) p l (tick-case (m .device .transfer) (m .area))
+held-act m Powers got p z l = absurd (omega arith)
+
+held : (m : Module) (h : History) → m .device .transfer .phase ≡ Verifying → powerCycles h ≡ 0 → ticks h < m .device .transfer .ticks → Held (storeOf m) (storeOf (end inner m h)) (ticks h)
+held m [] p z l = record { at = p; count = omega arith; bytes = refl }
+held m (x ∷ h) p z l =
+    let e = kind-act x in
+    let a : Held (storeOf m) (storeOf (inner .next m (x .event))) (tickCount (kindOf x)) =
+    subst (λ (k : Kind). Held (storeOf m) (storeOf (inner .next m (x .event))) (tickCount k)) (sym e)
+    (held-act m (act (x .event)) (x .got) p (omega (arith, ap powerCount e)) (omega (arith, ap tickCount e))) in
+    let b : Held (storeOf (inner .next m (x .event))) (storeOf (end inner m (x ∷ h))) (ticks h) = held (inner .next m (x .event)) h (a .at) (omega arith) (omega (arith, a .count)) in
+    record { at = b .at; count = omega (arith, a .count, b .count); bytes = b .bytes ∙ a .bytes }
+
+-- A record in Verifying has such a history
+record Waiting (h : History) (s : Store) : Type 0 where
+  before : History
+  finish : Line
+  since : History
+  host : ℕ
+  context : ℕ
+  whole : h ≡ before ++ (finish ∷ since)
+  finishes : kindOf finish ≡ Finished host context 0
+  of-open : InOpen (openAfter none before) context
+  bytes : bytesOf s ≡ sentIn (openAfter none before)
+  count : ticks since + s .transfer .ticks ≡ verification
+  some : 1 ≤ s .transfer .ticks
+  no-power : powerCycles since ≡ 0
+
+Watch : History → Store → Type 0
+Watch h s = s .transfer .phase ≡ Verifying → Waiting h s
+
+ticks-snoc : (h : History) (x : Line) → ticks (h ++ (x ∷ [])) ≡ ticks h + tickCount (kindOf x)
+ticks-snoc [] x = omega arith
+ticks-snoc (y ∷ h) x = omega (arith, ticks-snoc h x)
+
+powers-snoc : (h : History) (x : Line) → powerCycles (h ++ (x ∷ [])) ≡ powerCycles h + powerCount (kindOf x)
+powers-snoc [] x = omega arith
+powers-snoc (y ∷ h) x = omega (arith, powers-snoc h x)
+
+-- one entry more, which is no power cycle
+longer : (h : History) (s u : Store) (x : Line) → Waiting h s → powerCount (kindOf x) ≡ 0 → bytesOf u ≡ bytesOf s → tickCount (kindOf x) + u .transfer .ticks ≡ s .transfer .ticks → 1 ≤ u .transfer .ticks
+    → Waiting (h ++ (x ∷ [])) u
+longer h s u x w n b l m =
+    record {
+      before = w .before;
+      finish = w .finish;
+      since = w .since ++ (x ∷ []);
+      host = w .host;
+      context = w .context;
+      whole = ap (λ (z : History). z ++ (x ∷ [])) (w .whole) ∙ append-assoc (w .before) (w .finish ∷ w .since) (x ∷ []);
+      finishes = w .finishes;
+      of-open = w .of-open;
+      bytes = b ∙ w .bytes;
+      count = omega (arith, ticks-snoc (w .since) x, w .count);
+      some = m;
+      no-power = omega (arith, powers-snoc (w .since) x, w .no-power);
+    }
+
+-- the same store, one entry more
+same-watch : (h : History) (s u : Store) (x : Line) → u ≡ s → kindOf x ≡ Other → Watch h s → Watch (h ++ (x ∷ [])) u
+unfolding Watch
+same-watch h s u x e k w p =
+    let v : Waiting h s = w (ap (λ (z : Store). z .transfer .phase) (sym e) ∙ p) in
+    subst (λ (z : Store). Waiting (h ++ (x ∷ [])) z) (sym e) (longer h s s x v (ap powerCount k) refl (omega (arith, ap tickCount k)) (v .some))
+
+watch-tick : (h : History) (s : Store) (x : Line) → kindOf x ≡ Ticked → Watch h s → Tick (s .transfer) (s .area) → Watch (h ++ (x ∷ [])) (storeTick s)
+unfolding Watch
+watch-tick h s x k w (calm n e) p = never (sym (ap (λ (z : Phase). z is Verifying) p) ∙ ap (λ (t : Transfer). t .phase is Verifying) e ∙ n)
+watch-tick h s x k w (counting q l e) p =
+    subst (λ (t : Transfer). Waiting (h ++ (x ∷ [])) (record { transfer = t; area = s .area })) (sym e)
+    (longer h s (record { transfer = s .transfer with-ticks (s .transfer .ticks - 1); area = s .area }) x (w q) (ap powerCount k) refl (omega (arith, ap tickCount k)) (omega arith))
+watch-tick h s x k w (good version q l i e) p = never (sym (ap (λ (z : Phase). z is Verifying) p) ∙ ap (λ (t : Transfer). t .phase is Verifying) e)
+watch-tick h s x k w (bad q l i e) p = never (sym (ap (λ (z : Phase). z is Verifying) p) ∙ ap (λ (t : Transfer). t .phase is Verifying) e)
+
+watch-finish : (h : History) (s : Store) (x : Line) (host context flag : ℕ) → kindOf x ≡ Finished host context flag → InOpen (openAfter none h) context → bytesOf s ≡ sentIn (openAfter none h)
+    → Watch (h ++ (x ∷ [])) (storeChange s (Finish flag context))
+unfolding Watch
+watch-finish h s x host context flag k o b = go (flag =? 0) refl
+  where
+    go : (c : Bool) → (flag =? 0) ≡ c → (storeChange s (Finish flag context) .transfer .phase ≡ Verifying) → Waiting (h ++ (x ∷ [])) (storeChange s (Finish flag context))
+    go true e p =
+        let zero-flag : flag ≡ 0 = eqb-true flag 0 e in
+        subst (λ (n : ℕ). Waiting (h ++ (x ∷ [])) (storeChange s (Finish n context))) (sym zero-flag)
+        (record {
+          before = h;
+          finish = x;
+          since = [];
+          host = host;
+          context = context;
+          whole = refl;
+          finishes = k ∙ ap (Finished host context) zero-flag;
+          of-open = o;
+          bytes = b;
+          count = omega arith;
+          some = omega arith;
+          no-power = refl;
+        })
+    go false e p = never (sym (ap (λ (z : Phase). z is Verifying) p) ∙ ap (λ (c : Bool). (if c then s .transfer with-phase Verifying with-ticks verification else (s .transfer with-phase Idle with-received 0)) .phase is Verifying) e)
+
+watch-act : (h : History) (x : Line) (m : Module) (f : Act) → kindOf x ≡ actKind f (x .got) → Fits (openAfter none h) (storeOf m) → InOrder (openAfter none h) (kindOf x) → Watch h (storeOf m)
+    → answers m f ≡ x .got → Kept (x .got) → Watch (h ++ (x ∷ [])) (storeOf (nexts m f))
+watch-act h x m (Transfers host a b GetFwInfo n answer) e o t w p k =
+    same-watch h (storeOf m) (storeNext (storeOf m) a b GetFwInfo) x
+    (changes (storeOf m) a b GetFwInfo (accepted-call (storeOf m) a b GetFwInfo n answer (ap (λ (z : Answer). remains (z .reply .verdict)) p ∙ k))) e w
+watch-act h x m (Transfers host a b Start n answer) e o t w p k = unfold Watch in (λ q.
+    let c = changes (storeOf m) a b Start (accepted-call (storeOf m) a b Start n answer (ap (λ (z : Answer). remains (z .reply .verdict)) p ∙ k)) in
+    never (sym (ap (λ (z : Phase). z is Verifying) q) ∙ ap (λ (s : Store). s .transfer .phase is Verifying) c))
+watch-act h x m (Transfers host a b (Send context offset size piece) n answer) e o t w p k = unfold Watch in (λ q.
+    let v = accepted-call (storeOf m) a b (Send context offset size piece) n answer (ap (λ (z : Answer). remains (z .reply .verdict)) p ∙ k) in
+    let c = changes (storeOf m) a b (Send context offset size piece) v in
+    never (sym (ap (λ (z : Phase). z is Verifying) q) ∙ ap (λ (s : Store). s .transfer .phase is Verifying) c
+    ∙ ap (λ (z : Phase). z is Verifying) (send-ok (storeOf m) a b context offset size piece v .at)))
+watch-act h x m (Transfers host a b (Finish flag context) n answer) e o t w p k =
+    let v = accepted-call (storeOf m) a b (Finish flag context) n answer (ap (λ (z : Answer). remains (z .reply .verdict)) p ∙ k) in
+    let kind : kindOf x ≡ Finished host context flag = e ∙ chosen (x .got) (Finished host context flag) (accepted-good (storeOf m) a b (Finish flag context) n answer (x .got) p v) in
+    subst (λ (s : Store). Watch (h ++ (x ∷ [])) s) (sym (changes (storeOf m) a b (Finish flag context) v))
+    (watch-finish h (storeOf m) x host context flag kind (subst (λ (z : Kind). InOrder (openAfter none h) z) kind t)
+    (bytes-open (openAfter none h) (storeOf m) o (finish-ok (storeOf m) a b flag context v .at)))
+watch-act h x m (Transfers host a b (Query context) n answer) e o t w p k =
+    same-watch h (storeOf m) (storeNext (storeOf m) a b (Query context)) x
+    (changes (storeOf m) a b (Query context) (accepted-call (storeOf m) a b (Query context) n answer (ap (λ (z : Answer). remains (z .reply .verdict)) p ∙ k))) e w
+watch-act h x m (Others a b y n answer) e o t w p k = same-watch h (storeOf m) (storeOf m) x refl e w
+watch-act h x m Ticks e o t w p k = watch-tick h (storeOf m) x e w (tick-case (m .device .transfer) (m .area))
+watch-act h x m Powers e o t w p k = unfold Watch in (λ q. never (sym (ap (λ (z : Phase). z is Verifying) q)))
+
+watch : (before : History) (m : Module) (h : History) → Sound m → Fits (openAfter none before) (storeOf m) → Watch before (storeOf m) → Plays inner m h → All Remains h
+    → Watch (before ++ h) (storeOf (end inner m h))
+watch before m [] s o w p k = rw append-nil w
+watch before m (x ∷ h) s o w p k =
+    let g = goes x (openAfter none before) m s o (p .0) (k .0) in
+    let w′ = watch-act before x m (act (x .event)) (kind-act x) o (g .order) w (p .0) (k .0) in
+    subst (λ (z : History). Watch z (storeOf (end inner m (x ∷ h)))) (append-assoc before (x ∷ []) h)
+    (watch (before ++ (x ∷ [])) (inner .next m (x .event)) h (sound-act m (act (x .event)) s)
+    (subst (λ (z : Open). Fits z (storeOf (inner .next m (x .event)))) (sym (open-join none before (x ∷ []))) (g .fits)) w′ (p .1) (k .1))
+
+-- The transfer that is waiting, from its Start
+due-from : (h : History) (s : Store) (version : ℕ) → AllInOrder none h → Waiting h s → Ripe s version → Due h version
+due-from h s version t w r = go (openAfter none (w .before)) refl (w .of-open) (w .bytes)
+  where
+    go : (o : Open) → openAfter none (w .before) ≡ o → InOpen o (w .context) → bytesOf s ≡ sentIn o → Due h version
+    go none e of b = absurd of
+    go (by host c bytes) e of b =
+        let p : Opened (w .before) host c bytes = opened (w .before) host c bytes (orders-left none (w .before) (w .finish ∷ w .since) (subst (λ (z : History). AllInOrder none z) (w .whole) t)) e in
+        record {
+          transfer = record {
+            before = p .before;
+            start = p .start;
+            between = p .between;
+            finish = w .finish;
+            since = w .since;
+            starter = host;
+            finisher = w .host;
+            context = c;
+            flag = 0;
+            whole = w .whole ∙ ap (λ (z : History). z ++ (w .finish ∷ w .since)) (p .whole) ∙ append-assoc (p .before) (p .start ∷ p .between) (w .finish ∷ w .since);
+            starts = p .starts;
+            finishes = w .finishes ∙ ap (λ (n : ℕ). Finished (w .host) n 0) of;
+          };
+          no-abort = refl;
+          good = ap imageOf (sym (b ∙ p .sent)) ∙ r .good-image;
+          seven-ticks = omega (arith, w .count, w .some, r .last);
+          no-power-cycle = w .no-power;
+        }
+
+-- Forth: what is ripe is due
+pub ripe-due : (m : Module) (h : History) (version : ℕ) → Sound m → Fits none (storeOf m) → (m .device .transfer .phase is Verifying) ≡ false → Plays inner m h → All Remains h
+    → Ripe (storeOf (end inner m h)) version → Due h version
+unfolding Watch
+ripe-due m h version s o n p k r =
+    due-from h (storeOf (end inner m h)) version (orders none m h s o p k)
+    (watch [] m h s o (λ q. never (sym (ap (λ (z : Phase). z is Verifying) q) ∙ n)) p k (r .at)) r
+
+-- Back: what is due is ripe
+pub due-ripe : (m : Module) (h : History) (version : ℕ) → Sound m → Fits none (storeOf m) → Plays inner m h → All Remains h → Due h version → Ripe (storeOf (end inner m h)) version
+due-ripe m h version s o p k d =
+    subst (λ (z : Module). Ripe (storeOf z) version) (sym (ap (end inner m) whole ∙ end-join inner m pre last))
+    (record { at = hold .at; last = omega (arith, hold .count, d .seven-ticks, eight); good-image = ap imageOf (hold .bytes ∙ ap bytesOf e ∙ at .bytes-are) ∙ d .good })
+  where
+    f : FinishedIn h
+    f = d .transfer
+
+    pre : History
+    pre = f .before ++ (f .start ∷ f .between)
+
+    last : History
+    last = f .finish ∷ f .since
+
+    whole : h ≡ pre ++ last
+    whole = f .whole ∙ sym (append-assoc (f .before) (f .start ∷ f .between) last)
+
+    at : AtFinish m f
+    at = at-finish m h f s o p k
+
+    v : Module
+    v = end inner m pre
+
+    q : Plays inner v last
+    q = plays-right inner m pre last (at .played)
+
+    a : FinishAct (act (f .finish .event)) (f .finish .got) (f .finisher) (f .context) 0
+    a = finished-act (act (f .finish .event)) (f .finish .got) (f .finisher) (f .context) 0 (sym (kind-act (f .finish)) ∙ f .finishes ∙ ap (Finished (f .finisher) (f .context)) (d .no-abort))
+
+    e : storeOf (inner .next v (f .finish .event)) ≡ storeChange (storeOf v) (Finish 0 (f .context))
+    e =
+        ap (λ (z : Act). storeOf (nexts v z)) (a .act-is)
+        ∙ changes (storeOf v) (a .unserved) (a .misfit) (Finish 0 (f .context))
+        (good-accepted (storeOf v) (a .unserved) (a .misfit) (Finish 0 (f .context)) (a .n) (a .answer) (f .finish .got) (subst (λ (z : Act). answers v z ≡ f .finish .got) (a .act-is) (q .0)) (a .good))
+
+    eight : storeOf (inner .next v (f .finish .event)) .transfer .ticks ≡ verification
+    eight = ap (λ (z : Store). z .transfer .ticks) e
+
+    hold : Held (storeOf (inner .next v (f .finish .event))) (storeOf (end inner v last)) (ticks (f .since))
+    hold = held (inner .next v (f .finish .event)) (f .since) (ap (λ (z : Store). z .transfer .phase) e) (d .no-power-cycle) (omega (arith, d .seven-ticks, eight))

@@ -1,0 +1,152 @@
+-- What an accepted transfer call tells of the record, call by call. The only place that looks into the checks.
+-- Assumes nothing.
+use Prim.Native.Nat.{ℕ, _+_, _-_, _≤_, _<_}
+use mathlib.Core.Path.{_≡_, refl, sym}
+use mathlib.Core.Bool.{Bool, true, false, not, _||_, true≢false}
+use mathlib.Core.List.{List, _++_}
+use lib.ListN.{length}
+use borrow.Author.Tests.{ltb-true, ltb-false, eqb-true, eqb-false, not-false}
+use Rattle.rules.specs.Tests.{_=?_, _<?_}
+use Rattle.rules.specs.Numbers.{areaSize, longestPiece, lastContext}
+use Rattle.rules.specs.Record.{_is_, current}
+use Rattle.rules.specs.Refusals.{verdict}
+use Rattle.rules.specs.With.{_with-ticks_, _with-phase_, _with-staged_}
+use Rattle.rules.specs.Image.{imageOf}
+use Rattle.rules.specs.Transfer.{TransferCall, Start, Send, Finish, Query, transferChecks, transferAnswer, tickChange, receivedBytes}
+use Rattle.rules.specs.Refusals.{statusBytes}
+use Rattle.rules.specs.Transfers.{Answer}
+use Rattle.rules.specs.Demand.{remains}
+use Rattle.rules.specs.declared.Refusal.the-variants.{R, Status}
+use Rattle.rules.specs.declared.Verdict.{Verdict}
+use Rattle.rules.specs.declared.Verdict.the-variants.{Accepted, Refused}
+use Rattle.rules.specs.declared.Image.{Image}
+use Rattle.rules.specs.declared.Image.the-variants.{Good, Bad}
+use Rattle.rules.specs.declared.Phase.{Phase}
+use Rattle.rules.specs.declared.Phase.the-variants.{Idle, Receiving, Verifying, Staged, Failed}
+use Rattle.rules.specs.declared.Transfer.{Transfer}
+use Rattle.rules.proofs.Choice.{or-false, and-true}
+use Rattle.rules.proofs.Passed.{AllFalse, passed}
+use Rattle.rules.proofs.Parts.{Store, front, answerBy, storeVerdict, storeChange, storeAnswer, storeNext}
+use Rattle.rules.proofs.Through.{taken, transfer-mild}
+
+pub never : {X : Type 0} → true ≡ false → X
+never e = absurd (true≢false e)
+
+pub receiving : (p : Phase) → (p is Receiving) ≡ true → p ≡ Receiving
+receiving Idle e = never (sym e)
+receiving Receiving e = refl
+receiving Verifying e = never (sym e)
+receiving Staged e = never (sym e)
+receiving Failed e = never (sym e)
+
+pub verifying : (p : Phase) → (p is Verifying) ≡ true → p ≡ Verifying
+verifying Idle e = never (sym e)
+verifying Receiving e = never (sym e)
+verifying Verifying e = refl
+verifying Staged e = never (sym e)
+verifying Failed e = never (sym e)
+
+-- a transfer call whose answer remains was accepted
+answer-remains : (v : Verdict) (n : ℕ) (bytes answer : List ℕ) → remains (answerBy v n bytes answer .reply .verdict) ≡ true → remains v ≡ true
+answer-remains Accepted n bytes answer e = e
+answer-remains (Refused (R number)) n bytes answer e = e
+answer-remains (Refused (Status status ext)) n bytes answer e = e
+
+abbrev pub Kept : Answer → Type 0
+Kept got = remains (got .reply .verdict) ≡ true
+
+pub accepted-call : (s : Store) (a b : Bool) (x : TransferCall) (n : ℕ) (answer : List ℕ) → Kept (storeAnswer s a b x n answer) → storeVerdict s a b x ≡ Accepted
+accepted-call s a b x n answer k =
+    taken (storeVerdict s a b x) (transfer-mild (s .transfer) a b x)
+    (answer-remains (storeVerdict s a b x) n (statusBytes 0 0 ++ transferAnswer (s .transfer) x) answer k)
+
+-- an accepted call changes and answers what it says
+pub changes : (s : Store) (a b : Bool) (x : TransferCall) → storeVerdict s a b x ≡ Accepted → storeNext s a b x ≡ storeChange s x
+changes s a b x v = rw v
+
+pub replies : (s : Store) (a b : Bool) (x : TransferCall) (n : ℕ) (answer : List ℕ) → storeVerdict s a b x ≡ Accepted
+    → storeAnswer s a b x n answer ≡ answerBy Accepted n (statusBytes 0 0 ++ transferAnswer (s .transfer) x) answer
+replies s a b x n answer v = rw v
+
+-- it is served, and its request has the table's length
+pub record Served (a b : Bool) : Type 0 where
+  pub served : a ≡ false
+  pub fitting : b ≡ false
+
+pub was-served : (s : Store) (a b : Bool) (x : TransferCall) → storeVerdict s a b x ≡ Accepted → Served a b
+was-served s a b x v =
+    let w : AllFalse (front a b ++ transferChecks (s .transfer) x) = passed (front a b ++ transferChecks (s .transfer) x) v in
+    record { served = w .0; fitting = w .1 .0 }
+
+pub record StartOk (t : Transfer) : Type 0 where
+  pub not-receiving : (t .phase is Receiving) ≡ false
+  pub not-verifying : (t .phase is Verifying) ≡ false
+  pub not-staged : (t .phase is Staged) ≡ false
+  pub left : t .contexts ≡ lastContext → ⊥
+
+pub start-ok : (s : Store) (a b : Bool) → storeVerdict s a b Start ≡ Accepted → StartOk (s .transfer)
+start-ok s a b v =
+    let t : Transfer = s .transfer in
+    let w : AllFalse (front a b ++ transferChecks t Start) = passed (front a b ++ transferChecks t Start) v in
+    let q = or-false (t .phase is Receiving) (t .phase is Verifying) (w .1 .1 .0) in
+    record { not-receiving = q .0; not-verifying = q .1; not-staged = w .1 .1 .1 .0; left = eqb-false (t .contexts) lastContext (w .1 .1 .1 .1 .0) }
+
+pub record SendOk (t : Transfer) (context offset size : ℕ) (piece : List ℕ) : Type 0 where
+  pub at : t .phase ≡ Receiving
+  pub own : context ≡ current t
+  pub here : offset ≡ t .received
+  pub size-is : size ≡ length piece
+  pub inside : offset + size ≤ areaSize
+
+pub send-ok : (s : Store) (a b : Bool) (context offset size : ℕ) (piece : List ℕ) → storeVerdict s a b (Send context offset size piece) ≡ Accepted
+    → SendOk (s .transfer) context offset size piece
+send-ok s a b context offset size piece v =
+    let t : Transfer = s .transfer in
+    let w : AllFalse (front a b ++ transferChecks t (Send context offset size piece)) = passed (front a b ++ transferChecks t (Send context offset size piece)) v in
+    let long = or-false (not (size =? length piece) || size =? 0 || longestPiece <? size) (areaSize <? offset + size) (w .1 .1 .0) in
+    let piece-long = or-false (not (size =? length piece) || size =? 0) (longestPiece <? size) (long .0) in
+    let exact = or-false (not (size =? length piece)) (size =? 0) (piece-long .0) in
+    let q = and-true (t .phase is Receiving) (context =? current t) (not-false _ (w .1 .1 .1 .0)) in
+    record {
+      at = receiving (t .phase) (q .0);
+      own = eqb-true context (current t) (q .1);
+      here = eqb-true offset (t .received) (not-false _ (w .1 .1 .1 .1 .0));
+      size-is = eqb-true size (length piece) (not-false _ (exact .0));
+      inside = ltb-false areaSize (offset + size) (long .1);
+    }
+
+pub record FinishOk (t : Transfer) (flag context : ℕ) : Type 0 where
+  pub flag-ok : flag ≤ 1
+  pub at : t .phase ≡ Receiving
+  pub own : context ≡ current t
+
+pub finish-ok : (s : Store) (a b : Bool) (flag context : ℕ) → storeVerdict s a b (Finish flag context) ≡ Accepted → FinishOk (s .transfer) flag context
+finish-ok s a b flag context v =
+    let t : Transfer = s .transfer in
+    let w : AllFalse (front a b ++ transferChecks t (Finish flag context)) = passed (front a b ++ transferChecks t (Finish flag context)) v in
+    let q = and-true (not (t .phase is Idle)) (context =? current t) (not-false _ (w .1 .1 .1 .0)) in
+    record {
+      flag-ok = ltb-false 1 flag (w .1 .1 .0);
+      at = receiving (t .phase) (not-false _ (w .1 .1 .1 .1 .0));
+      own = eqb-true context (current t) (q .1);
+    }
+
+pub query-ok : (s : Store) (a b : Bool) (context : ℕ) → storeVerdict s a b (Query context) ≡ Accepted → (s .transfer .phase is Receiving) ≡ false
+query-ok s a b context v = passed (front a b ++ transferChecks (s .transfer) (Query context)) v .1 .1 .1 .0
+
+-- what a tick does: the four cases
+pub data Tick (t : Transfer) (area : List ℕ) : Type 0 where
+  calm : (t .phase is Verifying) ≡ false → tickChange t area ≡ t → Tick t area
+  counting : t .phase ≡ Verifying → 1 < t .ticks → tickChange t area ≡ t with-ticks (t .ticks - 1) → Tick t area
+  good : (version : ℕ) → t .phase ≡ Verifying → t .ticks ≤ 1 → imageOf (receivedBytes t area) ≡ Good version
+      → tickChange t area ≡ t with-ticks 0 with-phase Staged with-staged version → Tick t area
+  bad : t .phase ≡ Verifying → t .ticks ≤ 1 → imageOf (receivedBytes t area) ≡ Bad → tickChange t area ≡ t with-ticks 0 with-phase Failed → Tick t area
+
+pub tick-case : (t : Transfer) (area : List ℕ) → Tick t area
+tick-case t area = at (t .phase is Verifying) refl (1 <? t .ticks) refl (imageOf (receivedBytes t area)) refl
+  where
+    at : (b : Bool) → (t .phase is Verifying) ≡ b → (c : Bool) → (1 <? t .ticks) ≡ c → (i : Image) → imageOf (receivedBytes t area) ≡ i → Tick t area
+    at false e c f i g = calm e (rw e)
+    at true e true f i g = counting (verifying (t .phase) e) (ltb-true 1 (t .ticks) f) (rw (e, f))
+    at true e false f (Good version) g = good version (verifying (t .phase) e) (ltb-false 1 (t .ticks) f) g (rw (e, f, g))
+    at true e false f Bad g = bad (verifying (t .phase) e) (ltb-false 1 (t .ticks) f) g (rw (e, f, g))

@@ -1,0 +1,62 @@
+-- R numbers are an outer gate: what remains from a sound module plays alike with and without them.
+-- Assumes nothing.
+use mathlib.Core.Path.{_≡_, refl, sym, _∙_, ap, subst}
+use mathlib.Core.Bool.{Bool, true, false, false≢true}
+use mathlib.Core.List.{[], _∷_}
+use Rattle.rules.specs.Module.{Module}
+use Rattle.rules.specs.History.{Plays, end, All, Same}
+use Rattle.rules.specs.Transfers.{Answer, machine, Line, History}
+use Rattle.rules.specs.Demand.{remains, Sound}
+use Rattle.rules.proofs.Parts.{act, inner}
+use Rattle.rules.proofs.Through.{short, Through, shut}
+use Rattle.rules.proofs.Facts.{Kept}
+use Rattle.rules.proofs.Possible.{sound-act, sound-through}
+
+-- the entry remains; its answer buffer is long enough
+abbrev pub Remains : Line → Type 0
+Remains x = Kept (x .got)
+
+abbrev pub Roomy : Line → Type 0
+Roomy x = short (x .event) ≡ false
+
+pub roomy : (m : Module) (x : Line) → machine .answer m (x .event) ≡ x .got → Remains x → Roomy x
+roomy m x p k = go (short (x .event)) refl
+  where
+    go : (b : Bool) → short (x .event) ≡ b → short (x .event) ≡ false
+    go true e = absurd (false≢true (ap remains (sym (shut m (x .event) e .R1)) ∙ ap (λ (got : Answer). remains (got .reply .verdict)) p ∙ k))
+    go false e = e
+
+pub record Inward (m : Module) (h : History) : Type 0 where
+  pub plays : Plays inner m h
+  pub ends : end inner m h ≡ end machine m h
+  pub room : All Roomy h
+
+pub inwards : (m : Module) (h : History) → Sound m → Plays machine m h → All Remains h → Inward m h
+inwards m [] w p k = record { plays = tt; ends = refl; room = tt }
+inwards m (x ∷ h) w p k =
+    let r : short (x .event) ≡ false = roomy m x (p .0) (k .0) in
+    let t : Through m (x .event) = sound-through m (x .event) w r in
+    let i : Inward (inner .next m (x .event)) h = inwards (inner .next m (x .event)) h (sound-act m (act (x .event)) w) (subst (λ (u : Module). Plays machine u h) (t .nexts-as) (p .1)) (k .1) in
+    record { plays = (sym (t .answers-as) ∙ p .0, i .plays); ends = i .ends ∙ ap (λ (u : Module). end machine u h) (sym (t .nexts-as)); room = (r, i .room) }
+
+pub record Outward (m : Module) (h : History) : Type 0 where
+  pub plays : Plays machine m h
+  pub ends : end machine m h ≡ end inner m h
+
+pub outwards : (m : Module) (h : History) → Sound m → Plays inner m h → All Roomy h → Outward m h
+outwards m [] w p r = record { plays = tt; ends = refl }
+outwards m (x ∷ h) w p r =
+    let t : Through m (x .event) = sound-through m (x .event) w (r .0) in
+    let i : Outward (inner .next m (x .event)) h = outwards (inner .next m (x .event)) h (sound-act m (act (x .event)) w) (p .1) (r .1) in
+    record { plays = (t .answers-as ∙ p .0, subst (λ (u : Module). Plays machine u h) (sym (t .nexts-as)) (i .plays)); ends = ap (λ (u : Module). end machine u h) (t .nexts-as) ∙ i .ends }
+
+pub sound-inner : (m : Module) (h : History) → Sound m → Sound (end inner m h)
+sound-inner m [] w = w
+sound-inner m (x ∷ h) w = sound-inner (inner .next m (x .event)) h (sound-act m (act (x .event)) w)
+
+-- what is the same without the R numbers is the same with them
+pub same-outward : (m : Module) (h k : History) → Sound m → Plays machine m h → All Remains h → All Roomy k → Same inner m h k → Same machine m h k
+same-outward m h k w p l r i =
+    let into : Inward m h = inwards m h w p l in
+    let out : Outward m k = outwards m k w (i .plays) r in
+    record { plays = out .plays; ends = out .ends ∙ i .ends ∙ into .ends }

@@ -1,0 +1,198 @@
+-- The move: between a transfer's Start and its accepted Finish stand its own Sends, and entries that may go before its Start.
+-- Assumes nothing.
+use Prim.Native.Nat.{ℕ, _+_, _≤_}
+use mathlib.Core.Path.{_≡_, refl, sym, _∙_, ap, subst}
+use mathlib.Core.Logic.{_⊎_, inl, inr}
+use mathlib.Core.Bool.{true, false}
+use mathlib.Core.List.{[], _∷_, _++_}
+use native.Mathlib.Omega.{arith}
+use borrow.Author.Tests.{eq-eqb}
+use Rattle.rules.specs.Tests.{_=?_}
+use Rattle.rules.specs.Record.{_is_, current}
+use Rattle.rules.specs.Transfer.{TransferCall, GetFwInfo, Start, Send, Finish, Query}
+use Rattle.rules.specs.Module.{Module, Event}
+use Rattle.rules.specs.History.{Plays, end, All, Same}
+use Rattle.rules.specs.Transfers.{Answer, Line, History, Started, Finished, kindOf}
+use Rattle.rules.specs.Sends.{sendIn, ownSend, ownSends, others}
+use Rattle.rules.specs.Demand.{remains, Sound}
+use Rattle.rules.specs.declared.Verdict.the-variants.{Accepted}
+use Rattle.rules.specs.declared.Phase.{Phase}
+use Rattle.rules.specs.declared.Phase.the-variants.{Receiving, Verifying}
+use Rattle.rules.specs.declared.Transfer.{Transfer}
+use Rattle.rules.proofs.Choice.{if-both}
+use Rattle.rules.proofs.Joining.{all-left, plays-left, plays-right, same-cons, same-trans}
+use Rattle.rules.proofs.Swapping.{Either, gather, sink, frees}
+use Rattle.rules.proofs.Parts.{Store, storeOf, Act, Transfers, Others, Ticks, Powers, act, storeVerdict, storeChange, storeAnswer, storeTick, answers, nexts, inner, actKind}
+use Rattle.rules.proofs.Through.{kind-act}
+use Rattle.rules.proofs.Facts.{never, Kept, accepted-call, changes, StartOk, start-ok, send-ok, finish-ok, FinishOk, query-ok, Tick, calm, counting, good, bad, tick-case}
+use Rattle.rules.proofs.Keeps.{store-when}
+use Rattle.rules.proofs.Possible.{sound-act}
+use Rattle.rules.proofs.Gate.{Remains}
+use Rattle.rules.proofs.KindOf.{good-accepted, accepted-good, StartAct, started-act, FinishAct, finished-act, given-number}
+use Rattle.rules.proofs.Swap.{OwnAct, FreeAct, Own, Free, swaps, still}
+
+-- the number of contexts given out
+abbrev pub given : Store → ℕ
+given s = s .transfer .contexts
+
+-- The transfer with the context c is over: no event brings it back
+pub record Gone (c : ℕ) (s : Store) : Type 0 where
+  pub old : c ≤ given s
+  pub other : (s .transfer .phase is Receiving) ≡ true → c ≡ current (s .transfer) → ⊥
+
+gone-change : (c : ℕ) (s : Store) (x : TransferCall) → Gone c s → Gone c (storeChange s x)
+gone-change c s GetFwInfo g = g
+gone-change c s Start g = record { old = omega (arith, g .old); other = λ r e. omega (arith, g .old) }
+gone-change c s (Send context offset size piece) g = record { old = g .old; other = g .other }
+gone-change c s (Finish flag context) g =
+    if-both (λ (t : Transfer). Gone c (record { transfer = t; area = s .area })) (flag =? 0) (record { old = g .old; other = λ r e. never (sym r) }) (record { old = g .old; other = λ r e. never (sym r) })
+gone-change c s (Query context) g = g
+
+gone-tick : (c : ℕ) (s : Store) → Gone c s → Tick (s .transfer) (s .area) → Gone c (storeTick s)
+gone-tick c s g (calm n e) = subst (λ (t : Transfer). Gone c (record { transfer = t; area = s .area })) (sym e) g
+gone-tick c s g (counting p l e) = subst (λ (t : Transfer). Gone c (record { transfer = t; area = s .area })) (sym e) (record { old = g .old; other = g .other })
+gone-tick c s g (good version p l i e) = subst (λ (t : Transfer). Gone c (record { transfer = t; area = s .area })) (sym e) (record { old = g .old; other = λ r q. never (sym r) })
+gone-tick c s g (bad p l i e) = subst (λ (t : Transfer). Gone c (record { transfer = t; area = s .area })) (sym e) (record { old = g .old; other = λ r q. never (sym r) })
+
+gone-next : (c : ℕ) (m : Module) (f : Act) → Gone c (storeOf m) → Gone c (storeOf (nexts m f))
+gone-next c m (Transfers host a b x n answer) g = store-when (Gone c) (storeVerdict (storeOf m) a b x) (storeOf m) x g (λ v. gone-change c (storeOf m) x g)
+gone-next c m (Others a b x n answer) g = g
+gone-next c m Ticks g = gone-tick c (storeOf m) g (tick-case (m .device .transfer) (m .area))
+gone-next c m Powers g = record { old = g .old; other = λ r e. never (sym r) }
+
+gone-end : (c : ℕ) (m : Module) (h : History) → Gone c (storeOf m) → Gone c (storeOf (end inner m h))
+gone-end c m [] g = g
+gone-end c m (x ∷ h) g = gone-end c (inner .next m (x .event)) h (gone-next c m (act (x .event)) g)
+
+-- an entry that finishes the transfer c at m
+pub finish-at : (m : Module) (y : Line) (j c flag : ℕ) → kindOf y ≡ Finished j c flag → inner .answer m (y .event) ≡ y .got → FinishOk (m .device .transfer) flag c
+finish-at m y j c flag k p =
+    let f : FinishAct (act (y .event)) (y .got) j c flag = finished-act (act (y .event)) (y .got) j c flag (sym (kind-act y) ∙ k) in
+    let q : answers m (Transfers j (f .unserved) (f .misfit) (Finish flag c) (f .n) (f .answer)) ≡ y .got = subst (λ (z : Act). answers m z ≡ y .got) (f .act-is) p in
+    finish-ok (storeOf m) (f .unserved) (f .misfit) flag c (good-accepted (storeOf m) (f .unserved) (f .misfit) (Finish flag c) (f .n) (f .answer) (y .got) q (f .good))
+
+-- the transfer c goes on after the act
+record On (c : ℕ) (m : Module) (f : Act) (got : Answer) : Type 0 where
+  which : ((sendIn c (actKind f got) ≡ true) × OwnAct f) ⊎ ((sendIn c (actKind f got) ≡ false) × FreeAct f)
+  at : nexts m f .device .transfer .phase ≡ Receiving
+  ctx : current (nexts m f .device .transfer) ≡ c
+
+go-on : (c : ℕ) (m : Module) (f : Act) (got : Answer) → m .device .transfer .phase ≡ Receiving → current (m .device .transfer) ≡ c → answers m f ≡ got → Kept got
+    → Gone c (storeOf (nexts m f)) ⊎ On c m f got
+go-on c m (Transfers host a b GetFwInfo n answer) got p g q k =
+    let e = changes (storeOf m) a b GetFwInfo (accepted-call (storeOf m) a b GetFwInfo n answer (ap (λ (z : Answer). remains (z .reply .verdict)) q ∙ k)) in
+    inr (record { which = inr (refl, tt); at = ap (λ (s : Store). s .transfer .phase) e ∙ p; ctx = ap (λ (s : Store). current (s .transfer)) e ∙ g })
+go-on c m (Transfers host a b Start n answer) got p g q k =
+    let v = accepted-call (storeOf m) a b Start n answer (ap (λ (z : Answer). remains (z .reply .verdict)) q ∙ k) in
+    never (sym (ap (λ (z : Phase). z is Receiving) p) ∙ start-ok (storeOf m) a b v .not-receiving)
+go-on c m (Transfers host a b (Send context offset size piece) n answer) got p g q k =
+    let x : TransferCall = Send context offset size piece in
+    let v = accepted-call (storeOf m) a b x n answer (ap (λ (z : Answer). remains (z .reply .verdict)) q ∙ k) in
+    let e = changes (storeOf m) a b x v in
+    let w = send-ok (storeOf m) a b context offset size piece v in
+    inr (record {
+      which = inl (rw (accepted-good (storeOf m) a b x n answer got q v) (eq-eqb context c (w .own ∙ g)), tt);
+      at = ap (λ (s : Store). s .transfer .phase) e ∙ p;
+      ctx = ap (λ (s : Store). current (s .transfer)) e ∙ g;
+    })
+go-on c m (Transfers host a b (Finish flag context) n answer) got p g q k =
+    let x : TransferCall = Finish flag context in
+    let v = accepted-call (storeOf m) a b x n answer (ap (λ (z : Answer). remains (z .reply .verdict)) q ∙ k) in
+    inl (subst (λ (s : Store). Gone c s) (sym (changes (storeOf m) a b x v))
+    (if-both (λ (t : Transfer). Gone c (record { transfer = t; area = m .area })) (flag =? 0) (record { old = omega (arith, g); other = λ r z. never (sym r) }) (record { old = omega (arith, g); other = λ r z. never (sym r) })))
+go-on c m (Transfers host a b (Query context) n answer) got p g q k =
+    let v = accepted-call (storeOf m) a b (Query context) n answer (ap (λ (z : Answer). remains (z .reply .verdict)) q ∙ k) in
+    never (sym (ap (λ (z : Phase). z is Receiving) p) ∙ query-ok (storeOf m) a b context v)
+go-on c m (Others a b x n answer) got p g q k = inr (record { which = inr (refl, tt); at = p; ctx = g })
+go-on c m Ticks got p g q k =
+    let e = still (storeOf m) (ap (λ (z : Phase). z is Verifying) p) in
+    inr (record { which = inr (refl, tt); at = ap (λ (s : Store). s .transfer .phase) e ∙ p; ctx = ap (λ (s : Store). current (s .transfer)) e ∙ g })
+go-on c m Powers got p g q k = inl (record { old = omega (arith, g); other = λ r z. never (sym r) })
+
+-- of an entry
+abbrev pub Within : (context : ℕ) → Line → Type 0
+Within c x = Either Own Free (ownSend c) x
+
+within : (c : ℕ) (x : Line) → Kept (x .got) → ((sendIn c (actKind (act (x .event)) (x .got)) ≡ true) × OwnAct (act (x .event))) ⊎ ((sendIn c (actKind (act (x .event)) (x .got)) ≡ false) × FreeAct (act (x .event))) → Within c x
+unfolding Free
+within c x k (inl q) = inl (ap (sendIn c) (kind-act x) ∙ q .0, record { which = q .1; kept = k })
+within c x k (inr q) = inr (ap (sendIn c) (kind-act x) ∙ q .0, q .1)
+
+inside-step : (c j flag : ℕ) (m : Module) (x y : Line) (mid : History) → kindOf y ≡ Finished j c flag → inner .answer (end inner m (x ∷ mid)) (y .event) ≡ y .got → Kept (x .got)
+    → Gone c (storeOf (inner .next m (x .event))) ⊎ On c m (act (x .event)) (x .got)
+    → (On c m (act (x .event)) (x .got) → All (Within c) mid) → All (Within c) (x ∷ mid)
+inside-step c j flag m x y mid fin p k (inl g) i =
+    let w = finish-at (end inner m (x ∷ mid)) y j c flag fin p in
+    absurd (gone-end c (inner .next m (x .event)) mid g .other (ap (λ (z : Phase). z is Receiving) (w .at)) (w .own))
+inside-step c j flag m x y mid fin p k (inr o) i = (within c x k (o .which), i o)
+
+pub inside : (c j flag : ℕ) (m : Module) (mid : History) (y : Line) → m .device .transfer .phase ≡ Receiving → current (m .device .transfer) ≡ c → Plays inner m mid → All Remains mid
+    → kindOf y ≡ Finished j c flag → inner .answer (end inner m mid) (y .event) ≡ y .got → All (Within c) mid
+inside c j flag m [] y p g q k fin e = tt
+inside c j flag m (x ∷ mid) y p g q k fin e =
+    inside-step c j flag m x y mid fin e (k .0) (go-on c m (act (x .event)) (x .got) p g (q .0) (k .0))
+    (λ (o : On c m (act (x .event)) (x .got)). inside c j flag (inner .next m (x .event)) mid y (o .at) (o .ctx) (q .1) (k .1) fin e)
+
+-- what an accepted Start leads to
+pub record Begun (m : Module) (x : Line) (host context : ℕ) : Type 0 where
+  pub own : OwnAct (act (x .event))
+  pub phase : inner .next m (x .event) .device .transfer .phase ≡ Receiving
+  pub ctx : current (inner .next m (x .event) .device .transfer) ≡ context
+  pub next-number : context ≡ given (storeOf m) + 1
+  pub store-is : storeOf (inner .next m (x .event)) ≡ storeChange (storeOf m) Start
+  pub allowed : StartOk (m .device .transfer)
+
+pub begun : (m : Module) (x : Line) (host context : ℕ) → Sound m → kindOf x ≡ Started host context → inner .answer m (x .event) ≡ x .got → Begun m x host context
+begun m x host context w k p = go
+  where
+    f : StartAct (act (x .event)) (x .got) host context
+    f = started-act (act (x .event)) (x .got) host context (sym (kind-act x) ∙ k)
+
+    q : storeAnswer (storeOf m) (f .unserved) (f .misfit) Start (f .n) (f .answer) ≡ x .got
+    q = subst (λ (z : Act). answers m z ≡ x .got) (f .act-is) p
+
+    v : storeVerdict (storeOf m) (f .unserved) (f .misfit) Start ≡ Accepted
+    v = good-accepted (storeOf m) (f .unserved) (f .misfit) Start (f .n) (f .answer) (x .got) q (f .good)
+
+    e : storeOf (inner .next m (x .event)) ≡ storeChange (storeOf m) Start
+    e = ap (λ (z : Act). storeOf (nexts m z)) (f .act-is) ∙ changes (storeOf m) (f .unserved) (f .misfit) Start v
+
+    number : context ≡ given (storeOf m) + 1
+    number = sym (f .carried) ∙ given-number (storeOf m) (f .unserved) (f .misfit) (f .n) (f .answer) (x .got) q v (w .contexts-fit)
+
+    go : Begun m x host context
+    go = record {
+      own = subst (λ (z : Act). OwnAct z) (sym (f .act-is)) tt;
+      phase = ap (λ (s : Store). s .transfer .phase) e;
+      ctx = ap (λ (s : Store). current (s .transfer)) e ∙ sym number;
+      next-number = number;
+      store-is = e;
+      allowed = start-ok (storeOf m) (f .unserved) (f .misfit) v;
+    }
+
+-- from the state before the Start
+pub move-here : (m : Module) (x y : Line) (mid post : History) (host j c flag : ℕ) → Sound m → kindOf x ≡ Started host c → kindOf y ≡ Finished j c flag
+    → All Remains (x ∷ (mid ++ (y ∷ post))) → Plays inner m (x ∷ (mid ++ (y ∷ post)))
+    → Same inner m (x ∷ (mid ++ (y ∷ post))) (others c mid ++ (x ∷ (ownSends c mid ++ (y ∷ post))))
+move-here m x y mid post host j c flag w st fin k p =
+    same-trans inner (same-cons inner x (p .0) g)
+    (sink inner Sound sounds Own Free swaps m x (others c mid) (ownSends c mid ++ last) w (record { which = b .own; kept = k .0 })
+    (frees inner Sound sounds Own Free swaps (ownSend c) mid ins) (p .0, g .plays))
+  where
+    last : History
+    last = y ∷ post
+
+    sounds : (u : Module) (event : Event) → Sound u → Sound (inner .next u event)
+    sounds u event s = sound-act u (act event) s
+
+    b : Begun m x host c
+    b = begun m x host c w st (p .0)
+
+    u : Module
+    u = inner .next m (x .event)
+
+    ins : All (Within c) mid
+    ins = inside c j flag u mid y (b .phase) (b .ctx) (plays-left inner u mid last (p .1)) (all-left Remains mid last (k .1)) fin (plays-right inner u mid last (p .1) .0)
+
+    g : Same inner u (mid ++ last) (others c mid ++ (ownSends c mid ++ last))
+    g = gather inner Sound sounds Own Free swaps (ownSend c) u mid last (sounds m (x .event) w) ins (p .1)

@@ -1,0 +1,294 @@
+-- Every act of the two parts takes what a possible record has to what a possible record has. The facts; the theorems are in proofs/Possible.antt.
+-- Assumes nothing.
+use Prim.Native.Nat.{ℕ, _-_, _≤_, _<_}
+use mathlib.Core.Path.{_≡_, refl, sym, ap, subst}
+use mathlib.Core.Bool.{Bool, true, false, not, _&&_, _||_}
+use mathlib.Core.List.{List, [], _∷_}
+use native.Mathlib.Omega.{arith}
+use lib.ListN.{length, length-append, length-take, length-drop}
+use borrow.Author.Tests.{ltb-true, ltb-false, leb-true, lt-ltb, le-leb, eqb-true, eqb-false, eq-eqb, not-true, not-false}
+use Rattle.rules.specs.Tests.{if_then_else_, _=?_, _<?_, _≤?_, _implies_, _unless_}
+use Rattle.rules.specs.Bytes.{zeros?}
+use Rattle.rules.specs.Numbers.{areaSize, verification, limit, lastContext}
+use Rattle.rules.specs.With.{_with-ticks_, _with-phase_, _with-received_}
+use Rattle.rules.specs.Record.{_is_, possible, possibleTransfer, possibleSecurity, possibleThresholds}
+use Rattle.rules.specs.Refusals.{Check, _gives_, verdict}
+use Rattle.rules.specs.Thresholds.{GetThreshold, SetThreshold}
+use Rattle.rules.specs.Transfer.{TransferCall, GetFwInfo, Start, Send, Finish, Query, tickChange}
+use Rattle.rules.specs.Security.{SecurityCall, GetSecurityState, SetPassphrase, Disable, Unlock, Freeze, securityChecks, wrong}
+use Rattle.rules.specs.Module.{Module}
+use Rattle.rules.specs.declared.Refusal.{Refusal}
+use Rattle.rules.specs.declared.Refusal.the-variants.{R, Status}
+use Rattle.rules.specs.declared.Verdict.{Verdict}
+use Rattle.rules.specs.declared.Verdict.the-variants.{Accepted, Refused}
+use Rattle.rules.specs.declared.Phase.{Phase}
+use Rattle.rules.specs.declared.Phase.the-variants.{Idle, Receiving, Verifying, Staged, Failed}
+use Rattle.rules.specs.declared.Transfer.{Transfer}
+use Rattle.rules.specs.declared.Security.{Security}
+use Rattle.rules.proofs.Choice.{or-false, and-true, if-both}
+use Rattle.rules.proofs.Parts.{Store, Rest, storeOf, restOf, RestCall, Masks, Limits, Locks, Nothing, Act, Transfers, Others, Ticks, Powers, storeVerdict, storeChange, storeAfter, storeTick, restAfter, restChange, restChecks, restNext, restPower, nexts}
+use Rattle.rules.proofs.Through.{mild}
+use Rattle.rules.proofs.Facts.{never, start-ok, send-ok, finish-ok, Tick, calm, counting, good, bad, tick-case}
+
+-- the transfer's part, phase by phase
+abbrev pub PhaseOk : Phase → Transfer → Type 0
+PhaseOk Idle t = (t .received ≡ 0) × (t .ticks ≡ 0) × (t .staged ≡ 0)
+PhaseOk Receiving t = (1 ≤ t .contexts) × (t .ticks ≡ 0) × (t .staged ≡ 0)
+PhaseOk Verifying t = (1 ≤ t .contexts) × (1 ≤ t .ticks) × (t .ticks ≤ verification) × (t .staged ≡ 0)
+PhaseOk Staged t = (1 ≤ t .contexts) × (t .ticks ≡ 0)
+PhaseOk Failed t = (1 ≤ t .contexts) × (t .ticks ≡ 0) × (t .staged ≡ 0)
+
+pub record StoreOk (s : Store) : Type 0 where
+  pub within : s .transfer .received ≤ areaSize
+  pub in-phase : PhaseOk (s .transfer .phase) (s .transfer)
+  pub size : length (s .area) ≡ areaSize
+
+-- the six tests of a possible record's transfer part
+abbrev test : Phase → Transfer → Bool
+test p t =
+    (1 ≤? t .contexts unless p is Idle)
+    && (t .received ≤? areaSize)
+    && (p is Idle implies t .received =? 0)
+    && (p is Verifying implies 1 ≤? t .ticks && t .ticks ≤? verification)
+    && (t .ticks =? 0 unless p is Verifying)
+    && (t .staged =? 0 unless p is Staged)
+
+six : (a b c d e f : Bool) → (a && b && c && d && e && f) ≡ true → (a ≡ true) × (b ≡ true) × (c ≡ true) × (d ≡ true) × (e ≡ true) × (f ≡ true)
+six a b c d e f h =
+    let h₁ = and-true (a && b && c && d && e) f h in
+    let h₂ = and-true (a && b && c && d) e (h₁ .0) in
+    let h₃ = and-true (a && b && c) d (h₂ .0) in
+    let h₄ = and-true (a && b) c (h₃ .0) in
+    let h₅ = and-true a b (h₄ .0) in
+    (h₅ .0, h₅ .1, h₄ .1, h₃ .1, h₂ .1, h₁ .1)
+
+tests : (p : Phase) (t : Transfer) → test p t ≡ true → (t .received ≤ areaSize) × PhaseOk p t
+tests p t e = at p (six (1 ≤? t .contexts unless p is Idle) (t .received ≤? areaSize) (p is Idle implies t .received =? 0) (p is Verifying implies 1 ≤? t .ticks && t .ticks ≤? verification)
+    (t .ticks =? 0 unless p is Verifying) (t .staged =? 0 unless p is Staged) e)
+  where
+    at : (q : Phase) → ((1 ≤? t .contexts unless q is Idle) ≡ true) × ((t .received ≤? areaSize) ≡ true) × ((q is Idle implies t .received =? 0) ≡ true)
+        × ((q is Verifying implies 1 ≤? t .ticks && t .ticks ≤? verification) ≡ true) × ((t .ticks =? 0 unless q is Verifying) ≡ true) × ((t .staged =? 0 unless q is Staged) ≡ true)
+        → (t .received ≤ areaSize) × PhaseOk q t
+    at Idle h = (leb-true (t .received) areaSize (h .1), (eqb-true (t .received) 0 (h .2), eqb-true (t .ticks) 0 (h .4), eqb-true (t .staged) 0 (h .5)))
+    at Receiving h = (leb-true (t .received) areaSize (h .1), (leb-true 1 (t .contexts) (h .0), eqb-true (t .ticks) 0 (h .4), eqb-true (t .staged) 0 (h .5)))
+    at Verifying h =
+        let k = and-true (1 ≤? t .ticks) (t .ticks ≤? verification) (h .3) in
+        (leb-true (t .received) areaSize (h .1), (leb-true 1 (t .contexts) (h .0), leb-true 1 (t .ticks) (k .0), leb-true (t .ticks) verification (k .1), eqb-true (t .staged) 0 (h .5)))
+    at Staged h = (leb-true (t .received) areaSize (h .1), (leb-true 1 (t .contexts) (h .0), eqb-true (t .ticks) 0 (h .4)))
+    at Failed h = (leb-true (t .received) areaSize (h .1), (leb-true 1 (t .contexts) (h .0), eqb-true (t .ticks) 0 (h .4), eqb-true (t .staged) 0 (h .5)))
+
+tested : (p : Phase) (t : Transfer) → t .received ≤ areaSize → PhaseOk p t → test p t ≡ true
+tested Idle t r h = rw (le-leb (t .received) areaSize r, eq-eqb (t .received) 0 (h .0), eq-eqb (t .ticks) 0 (h .1), eq-eqb (t .staged) 0 (h .2))
+tested Receiving t r h = rw (le-leb (t .received) areaSize r, le-leb 1 (t .contexts) (h .0), eq-eqb (t .ticks) 0 (h .1), eq-eqb (t .staged) 0 (h .2))
+tested Verifying t r h =
+    rw (le-leb (t .received) areaSize r, le-leb 1 (t .contexts) (h .0), le-leb 1 (t .ticks) (h .1), le-leb (t .ticks) verification (h .2), eq-eqb (t .staged) 0 (h .3))
+tested Staged t r h = rw (le-leb (t .received) areaSize r, le-leb 1 (t .contexts) (h .0), eq-eqb (t .ticks) 0 (h .1))
+tested Failed t r h = rw (le-leb (t .received) areaSize r, le-leb 1 (t .contexts) (h .0), eq-eqb (t .ticks) 0 (h .1), eq-eqb (t .staged) 0 (h .2))
+
+-- Start comes from Idle or Failed
+start-from : (p : Phase) (t : Transfer) → PhaseOk p t → (p is Receiving) ≡ false → (p is Verifying) ≡ false → (p is Staged) ≡ false → (t .ticks ≡ 0) × (t .staged ≡ 0)
+start-from Idle t h a b c = (h .1, h .2)
+start-from Receiving t h a b c = never a
+start-from Verifying t h a b c = never b
+start-from Staged t h a b c = never c
+start-from Failed t h a b c = (h .1, h .2)
+
+at-phase : (p : Phase) (t : Transfer) → t .phase ≡ p → PhaseOk (t .phase) t → PhaseOk p t
+at-phase p t e h = subst (λ (q : Phase). PhaseOk q t) e h
+
+store-change : (s : Store) (a b : Bool) (x : TransferCall) → storeVerdict s a b x ≡ Accepted → StoreOk s → StoreOk (storeChange s x)
+store-change s a b GetFwInfo v w = w
+store-change s a b Start v w =
+    let k = start-ok s a b v in
+    let q = start-from (s .transfer .phase) (s .transfer) (w .in-phase) (k .not-receiving) (k .not-verifying) (k .not-staged) in
+    record { within = omega arith; in-phase = (omega arith, q .0, q .1); size = w .size }
+store-change s a b (Send context offset size piece) v w =
+    let k = send-ok s a b context offset size piece v in
+    let q = at-phase Receiving (s .transfer) (k .at) (w .in-phase) in
+    record {
+      within = omega (arith, k .inside, k .here);
+      in-phase = subst (λ (z : Phase). PhaseOk z (storeChange s (Send context offset size piece) .transfer)) (sym (k .at)) q;
+      size = simp (length-append, length-take, length-drop) (omega (arith, w .size, k .inside, k .size-is));
+    }
+store-change s a b (Finish flag context) v w = go (flag =? 0)
+  where
+    q : PhaseOk Receiving (s .transfer)
+    q = at-phase Receiving (s .transfer) (finish-ok s a b flag context v .at) (w .in-phase)
+
+    go : (c : Bool) → StoreOk (record { transfer = if c then s .transfer with-phase Verifying with-ticks verification else (s .transfer with-phase Idle with-received 0); area = s .area })
+    go true = record { within = w .within; in-phase = (q .0, omega arith, omega arith, q .2); size = w .size }
+    go false = record { within = omega arith; in-phase = (refl, q .1, q .2); size = w .size }
+store-change s a b (Query context) v w = w
+
+-- what holds of a store and of its change by an accepted call holds after the call
+pub store-when : (P : Store → Type 0) (v : Verdict) (s : Store) (x : TransferCall) → P s → (v ≡ Accepted → P (storeChange s x)) → P (storeAfter v s x)
+store-when P Accepted s x w f = f refl
+store-when P (Refused refusal) s x w f = w
+
+store-tick : (s : Store) → StoreOk s → Tick (s .transfer) (s .area) → StoreOk (storeTick s)
+store-tick s w (calm n e) = subst (λ (t : Transfer). StoreOk (record { transfer = t; area = s .area })) (sym e) w
+store-tick s w (counting p l e) =
+    let h = at-phase Verifying (s .transfer) p (w .in-phase) in
+    subst (λ (t : Transfer). StoreOk (record { transfer = t; area = s .area })) (sym e)
+    (record {
+      within = w .within;
+      in-phase = subst (λ (z : Phase). PhaseOk z (s .transfer with-ticks (s .transfer .ticks - 1))) (sym p) (h .0, omega arith, omega arith, h .3);
+      size = w .size;
+    })
+store-tick s w (good version p l i e) =
+    let h = at-phase Verifying (s .transfer) p (w .in-phase) in
+    subst (λ (t : Transfer). StoreOk (record { transfer = t; area = s .area })) (sym e) (record { within = w .within; in-phase = (h .0, refl); size = w .size })
+store-tick s w (bad p l i e) =
+    let h = at-phase Verifying (s .transfer) p (w .in-phase) in
+    subst (λ (t : Transfer). StoreOk (record { transfer = t; area = s .area })) (sym e) (record { within = w .within; in-phase = (h .0, refl, h .3); size = w .size })
+
+-- the rest
+pub record RestOk (r : Rest) : Type 0 where
+  pub locks : (r .security .locked implies r .security .enabled) ≡ true
+  pub phrase : (zeros? (r .security .passphrase) unless r .security .enabled) ≡ true
+  pub tries : r .security .attempts ≤ limit
+  pub bits : r .thresholds .enable < 8
+  pub spare : r .thresholds .spare ≤ 100
+
+-- row by row: a row whose refusal is no wrong passphrase
+peel : (t : Bool) (refusal : Refusal) (rows : List Check) (r : Rest) (x : RestCall) → mild (Refused refusal) ≡ true → RestOk r → (t ≡ false → RestOk (restAfter (verdict rows) r x))
+    → RestOk (restAfter (verdict ((t gives refusal) ∷ rows)) r x)
+unfolding verdict
+peel false refusal rows r x n w f = f refl
+peel true (R number) rows r x n w f = w
+peel true (Status status ext) rows r x n w f = rw (not-true (status =? 11) n) w
+
+-- the row of the passphrase
+pass : (t : Bool) (r : Rest) (x : RestCall) → r .security .attempts < limit → RestOk r → (t ≡ false → RestOk (restChange r x))
+    → RestOk (restAfter (verdict ((t gives Status 11 0) ∷ [])) r x)
+unfolding verdict
+pass false r x l w f = f refl
+pass true r x l w f = record { locks = w .locks; phrase = w .phrase; tries = omega arith; bits = w .bits; spare = w .spare }
+
+below-limit : (s : Security) → s .attempts ≤ limit → (s .frozen || s .attempts =? limit) ≡ false → s .attempts < limit
+below-limit s l e = let n = eqb-false (s .attempts) limit (or-false (s .frozen) (s .attempts =? limit) e .1) in omega arith
+
+-- the three rows of a call with a passphrase
+passes : (t u : Bool) (r : Rest) (x : RestCall) → RestOk r → (t ≡ false → RestOk (restChange r x))
+    → RestOk (restAfter (verdict ((r .security .frozen || r .security .attempts =? limit gives Status 10 0) ∷ (t gives Status 10 0) ∷ (u gives Status 11 0) ∷ [])) r x)
+passes t u r x w f =
+    peel (r .security .frozen || r .security .attempts =? limit) (Status 10 0) ((t gives Status 10 0) ∷ (u gives Status 11 0) ∷ []) r x refl w (λ a.
+    peel t (Status 10 0) ((u gives Status 11 0) ∷ []) r x refl w (λ b.
+    pass u r x (below-limit (r .security) (w .tries) a) w (λ c. f b)))
+
+accept : (r : Rest) (x : RestCall) → RestOk (restChange r x) → RestOk (restAfter (verdict []) r x)
+unfolding verdict
+accept r x w = w
+
+relock : (e l : Bool) → (l implies e) ≡ true → (e implies e) ≡ true
+relock true l h = refl
+relock false l h = refl
+
+lock-next : (r : Rest) (x : SecurityCall) → RestOk r → RestOk (restAfter (verdict (securityChecks (r .security) x)) r (Locks x))
+unfolding zeros?
+lock-next r GetSecurityState w = accept r (Locks GetSecurityState) w
+lock-next r (SetPassphrase given new) w =
+    passes (r .security .locked) (r .security .enabled && wrong (r .security) given) r (Locks (SetPassphrase given new)) w
+    (λ b. record { locks = rw b; phrase = refl; tries = omega arith; bits = w .bits; spare = w .spare })
+lock-next r (Disable given) w =
+    passes (not (r .security .enabled && not (r .security .locked))) (wrong (r .security) given) r (Locks (Disable given)) w
+    (λ b. record { locks = rw (and-true (r .security .enabled) (not (r .security .locked)) (not-false _ b) .1); phrase = refl; tries = omega arith; bits = w .bits; spare = w .spare })
+lock-next r (Unlock given) w =
+    passes (not (r .security .enabled && r .security .locked)) (wrong (r .security) given) r (Locks (Unlock given)) w
+    (λ b. record { locks = refl; phrase = w .phrase; tries = omega arith; bits = w .bits; spare = w .spare })
+lock-next r Freeze w =
+    peel (r .security .frozen || r .security .attempts =? limit) (Status 10 0) [] r (Locks Freeze) refl w
+    (λ a. accept r (Locks Freeze) (record { locks = w .locks; phrase = w .phrase; tries = w .tries; bits = w .bits; spare = w .spare }))
+
+call-next : (r : Rest) (x : RestCall) → RestOk r → RestOk (restAfter (verdict (restChecks r x)) r x)
+call-next r (Masks revision) w = accept r (Masks revision) w
+call-next r (Limits GetThreshold) w = accept r (Limits GetThreshold) w
+call-next r (Limits (SetThreshold enable spare media controller)) w =
+    peel (100 <? spare) (Status 3 0) [] r (Limits (SetThreshold enable spare media controller)) refl w
+    (λ a. accept r (Limits (SetThreshold enable spare media controller)) (record { locks = w .locks; phrase = w .phrase; tries = w .tries; bits = omega arith; spare = ltb-false 100 spare a }))
+call-next r (Locks x) w = lock-next r x w
+call-next r Nothing w = accept r Nothing w
+
+rest-next : (r : Rest) (a b : Bool) (x : RestCall) → RestOk r → RestOk (restNext r a b x)
+unfolding restNext
+rest-next r a b x w =
+    peel a (Status 1 0) ((b gives Status 3 0) ∷ restChecks r x) r x refl w (λ p.
+    peel b (Status 3 0) (restChecks r x) r x refl w (λ q. call-next r x w))
+
+-- the whole
+pub record Ok (m : Module) : Type 0 where
+  pub stores : StoreOk (storeOf m)
+  pub rests : RestOk (restOf m)
+
+pub ok-next : (m : Module) (a : Act) → Ok m → Ok (nexts m a)
+unfolding restPower
+ok-next m (Transfers host a b x n answer) w =
+    record { stores = store-when StoreOk (storeVerdict (storeOf m) a b x) (storeOf m) x (w .stores) (λ v. store-change (storeOf m) a b x v (w .stores)); rests = w .rests }
+ok-next m (Others a b x n answer) w = record { stores = w .stores; rests = rest-next (restOf m) a b x (w .rests) }
+ok-next m Ticks w = record { stores = store-tick (storeOf m) (w .stores) (tick-case (m .device .transfer) (m .area)); rests = w .rests }
+ok-next m Powers w =
+    record {
+      stores = record { within = omega arith; in-phase = (refl, refl, refl); size = w .stores .size };
+      rests = record {
+        locks = relock (m .device .security .enabled) (m .device .security .locked) (w .rests .locks);
+        phrase = w .rests .phrase;
+        tries = omega arith;
+        bits = w .rests .bits;
+        spare = w .rests .spare;
+      };
+    }
+
+pub ok-possible : (m : Module) → Ok m → possible (m .device) ≡ true
+unfolding possible possibleTransfer possibleSecurity possibleThresholds
+ok-possible m w =
+    rw (
+      tested (m .device .transfer .phase) (m .device .transfer) (w .stores .within) (w .stores .in-phase),
+      w .rests .locks,
+      w .rests .phrase,
+      le-leb (m .device .security .attempts) limit (w .rests .tries),
+      lt-ltb (m .device .thresholds .enable) 8 (w .rests .bits),
+      le-leb (m .device .thresholds .spare) 100 (w .rests .spare),
+    )
+
+pub possible-ok : (m : Module) → possible (m .device) ≡ true → length (m .area) ≡ areaSize → Ok m
+unfolding possible possibleTransfer possibleSecurity possibleThresholds
+possible-ok m e l =
+    let d = m .device in
+    let three = and-true (possibleTransfer (d .transfer) && possibleSecurity (d .security)) (possibleThresholds (d .thresholds)) e in
+    let two = and-true (possibleTransfer (d .transfer)) (possibleSecurity (d .security)) (three .0) in
+    let t = tests (d .transfer .phase) (d .transfer) (two .0) in
+    let q = and-true ((d .security .locked implies d .security .enabled) && (zeros? (d .security .passphrase) unless d .security .enabled)) (d .security .attempts ≤? limit) (two .1) in
+    let p = and-true (d .security .locked implies d .security .enabled) (zeros? (d .security .passphrase) unless d .security .enabled) (q .0) in
+    let h = and-true (d .thresholds .enable <? 8) (d .thresholds .spare ≤? 100) (three .1) in
+    record {
+      stores = record { within = t .0; in-phase = t .1; size = l };
+      rests = record {
+        locks = p .0;
+        phrase = p .1;
+        tries = leb-true (d .security .attempts) limit (q .1);
+        bits = ltb-true (d .thresholds .enable) 8 (h .0);
+        spare = leb-true (d .thresholds .spare) 100 (h .1);
+      };
+    }
+
+-- the contexts given out never exceed the last one
+fit-change : (s : Store) (a b : Bool) (x : TransferCall) → storeVerdict s a b x ≡ Accepted → s .transfer .contexts ≤ lastContext → storeChange s x .transfer .contexts ≤ lastContext
+fit-change s a b GetFwInfo v w = w
+fit-change s a b Start v w = let n = start-ok s a b v .left in omega arith
+fit-change s a b (Send context offset size piece) v w = w
+fit-change s a b (Finish flag context) v w = if-both (λ (t : Transfer). t .contexts ≤ lastContext) (flag =? 0) w w
+fit-change s a b (Query context) v w = w
+
+-- a tick gives out no context
+pub tick-contexts : (t : Transfer) (area : List ℕ) → Tick t area → tickChange t area .contexts ≡ t .contexts
+tick-contexts t area (calm n e) = ap (λ (u : Transfer). u .contexts) e
+tick-contexts t area (counting p l e) = ap (λ (u : Transfer). u .contexts) e
+tick-contexts t area (good version p l i e) = ap (λ (u : Transfer). u .contexts) e
+tick-contexts t area (bad p l i e) = ap (λ (u : Transfer). u .contexts) e
+
+pub fit-next : (m : Module) (a : Act) → m .device .transfer .contexts ≤ lastContext → nexts m a .device .transfer .contexts ≤ lastContext
+fit-next m (Transfers host a b x n answer) w =
+    store-when (λ (s : Store). s .transfer .contexts ≤ lastContext) (storeVerdict (storeOf m) a b x) (storeOf m) x w (λ v. fit-change (storeOf m) a b x v w)
+fit-next m (Others a b x n answer) w = w
+fit-next m Ticks w = rw (tick-contexts (m .device .transfer) (m .area) (tick-case (m .device .transfer) (m .area))) w
+fit-next m Powers w = omega arith

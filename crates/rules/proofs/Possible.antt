@@ -1,0 +1,80 @@
+-- A fresh record is possible; every event takes a possible record with an area of the right size to a possible record and keeps the area's size; and from
+-- such a module no R number is given but R1, for a short answer buffer.
+-- Assumes nothing.
+use Prim.Native.Nat.{ℕ}
+use mathlib.Core.Path.{_≡_, refl, sym, ap, _∙_, subst}
+use mathlib.Core.Bool.{Bool, true, false}
+use mathlib.Core.List.{List, [], _∷_}
+use native.Mathlib.Omega.{arith}
+use lib.ListN.{length}
+use borrow.Author.Tests.{eq-eqb}
+use Rattle.rules.specs.Bytes.{zeros?}
+use Rattle.rules.specs.Numbers.{areaSize}
+use Rattle.rules.specs.Record.{fresh, possible, possibleTransfer, possibleSecurity, possibleThresholds}
+use Rattle.rules.specs.Module.{Module, Event, step}
+use Rattle.rules.specs.History.{end}
+use Rattle.rules.specs.Transfers.{machine, History}
+use Rattle.rules.specs.Demand.{freshWith, Sound}
+use Rattle.rules.specs.declared.Refusal.the-variants.{R}
+use Rattle.rules.specs.declared.Verdict.the-variants.{Refused}
+use Rattle.rules.specs.declared.Device.{Device}
+use Rattle.rules.proofs.Parts.{Act, act, nexts}
+use Rattle.rules.proofs.Through.{short, numbered, Through, through, gate-numbered, shut}
+use Rattle.rules.proofs.Keeps.{Ok, ok-next, ok-possible, possible-ok, fit-next}
+
+-- "Fresh" is possible.
+pub possible-fresh : possible fresh ≡ true
+unfolding possible possibleTransfer possibleSecurity possibleThresholds zeros?
+possible-fresh = refl
+
+abbrev at : Device → List ℕ → Module
+at d area = record { device = d; area = area }
+
+ok-step : (m : Module) (event : Event) → Ok m → Ok (machine .next m event)
+ok-step m event w = go (short event) refl
+  where
+    go : (b : Bool) → short event ≡ b → Ok (machine .next m event)
+    go true e = subst (λ (u : Module). Ok u) (sym (shut m event e .same)) w
+    go false e =
+        subst (λ (u : Module). Ok u) (sym (through m event e (eq-eqb (length (m .area)) areaSize (w .stores .size)) (ok-possible m w) .nexts-as)) (ok-next m (act event) w)
+
+-- Every event takes a possible record to a possible record.
+pub possible-next : (d : Device) (area : List ℕ) (event : Event) → possible d ≡ true → length area ≡ areaSize → possible (step d area event .device) ≡ true
+possible-next d area event p l = ok-possible (machine .next (at d area) event) (ok-step (at d area) event (possible-ok (at d area) p l))
+
+-- Every event keeps the area's size.
+pub area-next : (d : Device) (area : List ℕ) (event : Event) → possible d ≡ true → length area ≡ areaSize → length (step d area event .area) ≡ areaSize
+area-next d area event p l = ok-step (at d area) event (possible-ok (at d area) p l) .stores .size
+
+-- R2 and R3 are never given; R1 only to a call with a short answer buffer.
+pub only-R1 : (d : Device) (area : List ℕ) (event : Event) (number : ℕ) → possible d ≡ true → length area ≡ areaSize
+    → step d area event .reply .verdict ≡ Refused (R number) → (number ≡ 1) × (short event ≡ true)
+only-R1 d area event number p l r = go (short event) refl
+  where
+    go : (b : Bool) → short event ≡ b → (number ≡ 1) × (short event ≡ true)
+    go true e = let q = shut (at d area) event e .R1 in (cc, e)
+    go false e = let q = ap numbered (sym r) ∙ gate-numbered (at d area) event e (eq-eqb (length area) areaSize l) p in let z : _≡_ {A = ℕ} 0 1 = cc in absurd (omega arith)
+
+-- The same of a whole module, with the width of contexts.
+pub sound-fresh : (area : List ℕ) → length area ≡ areaSize → Sound (freshWith area)
+sound-fresh area l = record { record-possible = possible-fresh; contexts-fit = omega arith; area-size = l }
+
+pub sound-act : (m : Module) (a : Act) → Sound m → Sound (nexts m a)
+sound-act m a w =
+    let k = ok-next m a (possible-ok m (w .record-possible) (w .area-size)) in
+    record { record-possible = ok-possible (nexts m a) k; contexts-fit = fit-next m a (w .contexts-fit); area-size = k .stores .size }
+
+-- past R1 a sound module is its two parts
+pub sound-through : (m : Module) (event : Event) → Sound m → short event ≡ false → Through m event
+sound-through m event w e = through m event e (eq-eqb (length (m .area)) areaSize (w .area-size)) (w .record-possible)
+
+pub sound-next : (m : Module) (event : Event) → Sound m → Sound (machine .next m event)
+sound-next m event w = go (short event) refl
+  where
+    go : (b : Bool) → short event ≡ b → Sound (machine .next m event)
+    go true e = subst (λ (u : Module). Sound u) (sym (shut m event e .same)) w
+    go false e = subst (λ (u : Module). Sound u) (sym (sound-through m event w e .nexts-as)) (sound-act m (act event) w)
+
+pub sound-end : (m : Module) (h : History) → Sound m → Sound (end machine m h)
+sound-end m [] w = w
+sound-end m (x ∷ h) w = sound-end (machine .next m (x .event)) h (sound-next m (x .event) w)

@@ -1,0 +1,168 @@
+-- What stages an image: only a tick, the eighth after a good image's Finish; and Staged stays until a power cycle.
+-- Assumes nothing.
+use Prim.Native.Nat.{ℕ, zero, suc, _≤_}
+use mathlib.Core.Path.{_≡_, refl, sym, _∙_, ap}
+use mathlib.Core.Bool.{Bool, true, false, _||_}
+use mathlib.Core.List.{List, [], _∷_}
+use native.Mathlib.Omega.{arith}
+use Rattle.rules.specs.Tests.{if_then_else_, _=?_}
+use Rattle.rules.specs.Record.{_is_}
+use Rattle.rules.specs.Image.{imageOf}
+use Rattle.rules.specs.Refusals.{refused?}
+use Rattle.rules.specs.Table.{rowOf}
+use Rattle.rules.specs.Transfer.{TransferCall, GetFwInfo, Start, Send, Finish, Query, receivedBytes}
+use Rattle.rules.specs.Module.{Call, OnMask, OnThresholds, OnTransfer, OnSecurity, OnNothing, Module, Event, call, tick, power}
+use Rattle.rules.specs.History.{end}
+use Rattle.rules.specs.Transfers.{Answer, machine, Line, History, Kind, Started, Sent, Finished, Other, callIn, callKind, kindOf}
+use Rattle.rules.specs.Sends.{tickCount, ticks, powerCount, powerCycles}
+use Rattle.rules.specs.Demand.{Sound, Stages, StagedOnce}
+use Rattle.rules.specs.declared.Verdict.the-variants.{Accepted}
+use Rattle.rules.specs.declared.Image.the-variants.{Good, Bad}
+use Rattle.rules.specs.declared.Phase.{Phase}
+use Rattle.rules.specs.declared.Phase.the-variants.{Receiving, Verifying, Staged}
+use Rattle.rules.specs.declared.Transfer.{Transfer}
+use Rattle.rules.proofs.Choice.{if-both}
+use Rattle.rules.proofs.Joining.{end-join}
+use Rattle.rules.proofs.Parts.{Store, storeOf, Act, Transfers, Others, Ticks, Powers, act, actOf, unserved?, misfit?, storeVerdict, storeChange, storeNext, storeTick, nexts, actKind}
+use Rattle.rules.proofs.Through.{short, shut, kind-act}
+use Rattle.rules.proofs.Facts.{never, start-ok, send-ok, finish-ok, Tick, calm, counting, good, bad, tick-case}
+use Rattle.rules.proofs.Keeps.{store-when}
+use Rattle.rules.proofs.Possible.{sound-through, sound-next, sound-end}
+use Rattle.rules.proofs.Swap.{still}
+
+-- the next tick stages the version
+pub record Ripe (s : Store) (version : ℕ) : Type 0 where
+  pub at : s .transfer .phase ≡ Verifying
+  pub last : s .transfer .ticks ≤ 1
+  pub good-image : imageOf (receivedBytes (s .transfer) (s .area)) ≡ Good version
+
+-- Verifying and Staged: no transfer call changes anything
+abbrev pub busy : Phase → Bool
+busy p = (p is Verifying) || (p is Staged)
+
+busy-not : (p : Phase) → busy p ≡ true → p ≡ Receiving → ⊥
+busy-not p b e = never (sym b ∙ ap busy e)
+
+busy-start : (p : Phase) → busy p ≡ true → (p is Verifying) ≡ false → (p is Staged) ≡ false → ⊥
+busy-start p b v s = never (sym b ∙ rw (v, s))
+
+quiet-change : (s : Store) (a b : Bool) (x : TransferCall) → busy (s .transfer .phase) ≡ true → storeVerdict s a b x ≡ Accepted → storeChange s x ≡ s
+quiet-change s a b GetFwInfo w v = refl
+quiet-change s a b Start w v = let k = start-ok s a b v in absurd (busy-start (s .transfer .phase) w (k .not-verifying) (k .not-staged))
+quiet-change s a b (Send context offset size piece) w v = absurd (busy-not (s .transfer .phase) w (send-ok s a b context offset size piece v .at))
+quiet-change s a b (Finish flag context) w v = absurd (busy-not (s .transfer .phase) w (finish-ok s a b flag context v .at))
+quiet-change s a b (Query context) w v = refl
+
+pub quiet : (s : Store) (a b : Bool) (x : TransferCall) → busy (s .transfer .phase) ≡ true → storeNext s a b x ≡ s
+quiet s a b x w = store-when (λ (u : Store). u ≡ s) (storeVerdict s a b x) s x refl (λ v. quiet-change s a b x w v)
+
+-- only a tick stages
+staged-change : (s : Store) (x : TransferCall) → (s .transfer .phase is Staged) ≡ false → (storeChange s x .transfer .phase is Staged) ≡ false
+staged-change s GetFwInfo w = w
+staged-change s Start w = refl
+staged-change s (Send context offset size piece) w = w
+staged-change s (Finish flag context) w = if-both (λ (t : Transfer). (t .phase is Staged) ≡ false) (flag =? 0) refl refl
+staged-change s (Query context) w = w
+
+tick-ripe : (s : Store) (version : ℕ) → Tick (s .transfer) (s .area) → (s .transfer .phase is Staged) ≡ false → storeTick s .transfer .phase ≡ Staged → storeTick s .transfer .staged ≡ version → Ripe s version
+tick-ripe s version (calm n e) w p v = never (sym (ap (λ (q : Phase). q is Staged) p) ∙ ap (λ (t : Transfer). t .phase is Staged) e ∙ w)
+tick-ripe s version (counting q l e) w p v = never (sym (ap (λ (z : Phase). z is Staged) p) ∙ ap (λ (t : Transfer). t .phase is Staged) e ∙ w)
+tick-ripe s version (good found q l i e) w p v = record { at = q; last = l; good-image = i ∙ ap Good (sym (ap (λ (t : Transfer). t .staged) e) ∙ v) }
+tick-ripe s version (bad q l i e) w p v = never (sym (ap (λ (z : Phase). z is Staged) p) ∙ ap (λ (t : Transfer). t .phase is Staged) e)
+
+stages-act : (m : Module) (f : Act) (version : ℕ) → (m .device .transfer .phase is Staged) ≡ false → nexts m f .device .transfer .phase ≡ Staged → nexts m f .device .transfer .staged ≡ version
+    → (f ≡ Ticks) × Ripe (storeOf m) version
+stages-act m (Transfers host a b x n answer) version w p v =
+    never (sym (ap (λ (z : Phase). z is Staged) p)
+    ∙ store-when (λ (u : Store). (u .transfer .phase is Staged) ≡ false) (storeVerdict (storeOf m) a b x) (storeOf m) x w (λ e. staged-change (storeOf m) x w))
+stages-act m (Others a b x n answer) version w p v = never (sym (ap (λ (z : Phase). z is Staged) p) ∙ w)
+stages-act m Ticks version w p v = (refl, tick-ripe (storeOf m) version (tick-case (m .device .transfer) (m .area)) w p v)
+stages-act m Powers version w p v = never (sym (ap (λ (z : Phase). z is Staged) p))
+
+call-no-tick : (host : ℕ) (a b : Bool) (c : Call) (n : ℕ) (answer : List ℕ) → actOf host a b c n answer ≡ Ticks → ⊥
+call-no-tick host a b (OnMask revision) n answer e = let z : _≡_ {A = ℕ} 0 1 = cc in omega arith
+call-no-tick host a b (OnThresholds x) n answer e = let z : _≡_ {A = ℕ} 0 1 = cc in omega arith
+call-no-tick host a b (OnTransfer x) n answer e = let z : _≡_ {A = ℕ} 0 1 = cc in omega arith
+call-no-tick host a b (OnSecurity x) n answer e = let z : _≡_ {A = ℕ} 0 1 = cc in omega arith
+call-no-tick host a b OnNothing n answer e = let z : _≡_ {A = ℕ} 0 1 = cc in omega arith
+
+event-tick : (event : Event) → act event ≡ Ticks → event ≡ tick
+event-tick (call host revision index request answer) e =
+    absurd (call-no-tick host (unserved? revision index) (misfit? index request) (callIn revision index request) (rowOf index .answer) answer e)
+event-tick tick e = refl
+event-tick power e = let z : _≡_ {A = ℕ} 0 1 = cc in absurd (omega arith)
+
+pub stages-ripe : (m : Module) (event : Event) (version : ℕ) → Sound m → Stages m event version → (event ≡ tick) × Ripe (storeOf m) version
+stages-ripe m event version w g = go (short event) refl
+  where
+    go : (b : Bool) → short event ≡ b → (event ≡ tick) × Ripe (storeOf m) version
+    go true e = never (sym (ap (λ (z : Phase). z is Staged) (g .staged)) ∙ ap (λ (u : Module). u .device .transfer .phase is Staged) (shut m event e .same) ∙ g .was)
+    go false e =
+        let t = sound-through m event w e .nexts-as in
+        let q = stages-act m (act event) version (g .was) (ap (λ (u : Module). u .device .transfer .phase) (sym t) ∙ g .staged) (ap (λ (u : Module). u .device .transfer .staged) (sym t) ∙ g .with) in
+        (event-tick event (q .0), q .1)
+
+tick-good : (s : Store) (version : ℕ) → Ripe s version → Tick (s .transfer) (s .area) → (storeTick s .transfer .phase ≡ Staged) × (storeTick s .transfer .staged ≡ version)
+tick-good s version r (calm n e) = never (sym (ap (λ (z : Phase). z is Verifying) (r .at)) ∙ n)
+tick-good s version r (counting p l e) = absurd (omega (arith, r .last))
+tick-good s version r (good found p l i e) =
+    let same : Good found ≡ Good version = sym i ∙ r .good-image in
+    let v : found ≡ version = cc in
+    (ap (λ (t : Transfer). t .phase) e, ap (λ (t : Transfer). t .staged) e ∙ v)
+tick-good s version r (bad p l i e) =
+    let same : Bad ≡ Good version = sym i ∙ r .good-image in
+    let z : _≡_ {A = ℕ} 0 1 = cc in absurd (omega arith)
+
+pub ripe-stages : (m : Module) (version : ℕ) → Sound m → Ripe (storeOf m) version → Stages m tick version
+ripe-stages m version w r =
+    let t = sound-through m tick w refl .nexts-as in
+    let q = tick-good (storeOf m) version r (tick-case (m .device .transfer) (m .area)) in
+    record {
+      was = ap (λ (z : Phase). z is Staged) (r .at);
+      staged = ap (λ (u : Module). u .device .transfer .phase) t ∙ q .0;
+      with = ap (λ (u : Module). u .device .transfer .staged) t ∙ q .1;
+    }
+
+-- a call counts neither as a tick nor as a power cycle
+no-tick-if : (b : Bool) (k : Kind) → tickCount k ≡ 0 → tickCount (if b then Other else k) ≡ 0
+no-tick-if true k e = refl
+no-tick-if false k e = e
+
+pub no-tick : (host : ℕ) (x : TransferCall) (got : Answer) → tickCount (callKind host (OnTransfer x) got) ≡ 0
+no-tick host GetFwInfo got = refl
+no-tick host Start got = no-tick-if (refused? (got .reply .verdict)) (Started host _) refl
+no-tick host (Send context offset size piece) got = no-tick-if (refused? (got .reply .verdict)) (Sent host context offset piece) refl
+no-tick host (Finish flag context) got = no-tick-if (refused? (got .reply .verdict)) (Finished host context flag) refl
+no-tick host (Query context) got = refl
+
+-- Staged stays until a power cycle
+staged-act : (m : Module) (f : Act) (got : Answer) → m .device .transfer .phase ≡ Staged → powerCount (actKind f got) ≡ 0 → nexts m f .device .transfer .phase ≡ Staged
+staged-act m (Transfers host a b x n answer) got p z = ap (λ (s : Store). s .transfer .phase) (quiet (storeOf m) a b x (ap busy p)) ∙ p
+staged-act m (Others a b x n answer) got p z = p
+staged-act m Ticks got p z = ap (λ (s : Store). s .transfer .phase) (still (storeOf m) (ap (λ (q : Phase). q is Verifying) p)) ∙ p
+staged-act m Powers got p z = absurd (omega arith)
+
+staged-step : (m : Module) (x : Line) → Sound m → m .device .transfer .phase ≡ Staged → powerCount (kindOf x) ≡ 0 → machine .next m (x .event) .device .transfer .phase ≡ Staged
+staged-step m x w p z = go (short (x .event)) refl
+  where
+    go : (b : Bool) → short (x .event) ≡ b → machine .next m (x .event) .device .transfer .phase ≡ Staged
+    go true e = ap (λ (u : Module). u .device .transfer .phase) (shut m (x .event) e .same) ∙ p
+    go false e =
+        ap (λ (u : Module). u .device .transfer .phase) (sound-through m (x .event) w e .nexts-as)
+        ∙ staged-act m (act (x .event)) (x .got) p (ap powerCount (sym (kind-act x)) ∙ z)
+
+staged-stays : (m : Module) (h : History) → Sound m → m .device .transfer .phase ≡ Staged → powerCycles h ≡ 0 → end machine m h .device .transfer .phase ≡ Staged
+staged-stays m [] w p z = p
+staged-stays m (x ∷ h) w p z =
+    staged-stays (machine .next m (x .event)) h (sound-next m (x .event) w) (staged-step m x w p (omega arith)) (omega arith)
+
+-- An image is staged once, from every sound module.
+pub staged-once : (m : Module) (h : History) → Sound m → StagedOnce m h
+staged-once m h w before between x event first second whole g l = go (powerCycles between) refl
+  where
+    go : (n : ℕ) → powerCycles between ≡ n → 1 ≤ powerCycles between
+    go zero e =
+        never (sym (ap (λ (p : Phase). p is Staged) (staged-stays (machine .next (end machine m before) (x .event)) between (sound-next (end machine m before) (x .event) (sound-end m before w)) (g .staged) e))
+        ∙ ap (λ (u : Module). u .device .transfer .phase is Staged) (sym (ap (end machine m) whole ∙ end-join machine m before (x ∷ between)))
+        ∙ l .was)
+    go (suc n) e = omega arith

@@ -1,0 +1,89 @@
+-- Each from one host: with honest hosts every Send and every Finish of the open transfer is made by the host that started it.
+-- Assumes nothing.
+use Prim.Native.Nat.{ℕ, _≤_}
+use mathlib.Core.Path.{_≡_, refl, sym, _∙_, subst}
+use mathlib.Core.Logic.{inl, inr}
+use mathlib.Core.List.{List, [], _∷_}
+use native.Mathlib.Omega.{arith}
+use Rattle.rules.specs.Module.{Module}
+use Rattle.rules.specs.History.{Plays, All}
+use Rattle.rules.specs.Transfers.{Line, History, Kind, Started, Sent, Finished, Ticked, Powered, Other, kindOf, Open, none, by, withPiece, opens, OfOpen, InTurn, AllInTurn}
+use Rattle.rules.specs.Demand.{AnsweredTo, HonestAfter, Sound}
+use Rattle.rules.proofs.Parts.{Store, storeOf, act, inner}
+use Rattle.rules.proofs.Possible.{sound-act}
+use Rattle.rules.proofs.Gate.{Remains}
+use Rattle.rules.proofs.KindOf.{NoStart}
+use Rattle.rules.proofs.Inside.{given, Begun, begun}
+use Rattle.rules.proofs.Honest.{uses-act}
+use Rattle.rules.proofs.Order.{Fits, InOpen, InOrder, UsesKind, goes}
+
+-- the open transfer's context was answered to its host alone
+abbrev Sole : History → Open → Type 0
+Sole past none = Unit {0}
+Sole past (by host context bytes) = (j : ℕ) → AnsweredTo j context past → j ≡ host
+
+-- what is known of the hosts: that, and no context answered is above the number given out
+pub record Hosts (past : History) (o : Open) (s : Store) : Type 0 where
+  pub sole : Sole past o
+  pub below : (host context : ℕ) → AnsweredTo host context past → context ≤ given s
+
+pub hosts-fresh : (s : Store) → Hosts [] none s
+hosts-fresh s = record { sole = tt; below = λ host context m. absurd m }
+
+-- an entry that is no Start adds no Start
+older : (past : History) (x : Line) (k : Kind) (host context : ℕ) → kindOf x ≡ k → NoStart k → AnsweredTo host context (x ∷ past) → AnsweredTo host context past
+older past x k host context e n (inl q) = absurd (subst NoStart (sym e ∙ q) n)
+older past x k host context e n (inr m) = m
+
+sole-older : (past : History) (x : Line) (k : Kind) (o : Open) → kindOf x ≡ k → NoStart k → Sole past o → Sole (x ∷ past) o
+sole-older past x k none e n s = tt
+sole-older past x k (by host context bytes) e n s = λ j m. s j (older past x k j context e n m)
+
+add : (past : History) (x : Line) (k : Kind) (o o′ : Open) (s u : Store) → kindOf x ≡ k → NoStart k → Hosts past o s → Sole past o′ → given u ≡ given s → Hosts (x ∷ past) o′ u
+add past x k o o′ s u e n w so g =
+    record { sole = sole-older past x k o′ e n so; below = λ host context m. rw g (w .below host context (older past x k host context e n m)) }
+
+sole-piece : (past : History) (o : Open) (piece : List ℕ) → Sole past o → Sole past (withPiece o piece)
+sole-piece past none piece s = tt
+sole-piece past (by host context bytes) piece s = s
+
+-- a Start
+hosts-start : (past : History) (x : Line) (o : Open) (m : Module) (host context : ℕ) → kindOf x ≡ Started host context → Begun m x host context → Hosts past o (storeOf m)
+    → Hosts (x ∷ past) (by host context []) (storeOf (inner .next m (x .event)))
+hosts-start past x o m host context e b w = record { sole = sole; below = below }
+  where
+    below : (j c : ℕ) → AnsweredTo j c (x ∷ past) → c ≤ given (storeOf (inner .next m (x .event)))
+    below j c (inl q) = let same : Started j c ≡ Started host context = sym q ∙ e in let r : c ≡ context = cc in omega (arith, b .ctx)
+    below j c (inr r) = omega (arith, w .below j c r, b .next-number, b .ctx)
+
+    sole : (j : ℕ) → AnsweredTo j context (x ∷ past) → j ≡ host
+    sole j (inl q) = let same : Started j context ≡ Started host context = sym q ∙ e in cc
+    sole j (inr r) = absurd (omega (arith, w .below j context r, b .next-number))
+
+-- of the open transfer, by its host
+of-open : (past : History) (o : Open) (host context : ℕ) → Sole past o → InOpen o context → AnsweredTo host context past → OfOpen o host context
+of-open past none host context s i m = absurd i
+of-open past (by starter c bytes) host context s i m = (s host (subst (λ (n : ℕ). AnsweredTo host n past) i m), i)
+
+record Turned (past : History) (x : Line) (o : Open) (k : Kind) (u : Store) : Type 0 where
+  turn : InTurn o k
+  hosts : Hosts (x ∷ past) (opens o k) u
+
+turned : (past : History) (x : Line) (o : Open) (m : Module) (k : Kind) → kindOf x ≡ k → Sound m → inner .answer m (x .event) ≡ x .got → Hosts past o (storeOf m) → InOrder o k → UsesKind past k
+    → (NoStart k → given (storeOf (inner .next m (x .event))) ≡ given (storeOf m)) → Turned past x o k (storeOf (inner .next m (x .event)))
+turned past x o m (Started host context) e sound p w i u g = record { turn = i; hosts = hosts-start past x o m host context e (begun m x host context sound e p) w }
+turned past x o m (Sent host context offset piece) e sound p w i u g =
+    record { turn = (of-open past o host context (w .sole) (i .0) u, i .1); hosts = add past x (Sent host context offset piece) o (withPiece o piece) (storeOf m) _ e tt w (sole-piece past o piece (w .sole)) (g tt) }
+turned past x o m (Finished host context flag) e sound p w i u g =
+    record { turn = of-open past o host context (w .sole) i u; hosts = add past x (Finished host context flag) o none (storeOf m) _ e tt w tt (g tt) }
+turned past x o m Ticked e sound p w i u g = record { turn = tt; hosts = add past x Ticked o o (storeOf m) _ e tt w (w .sole) (g tt) }
+turned past x o m Powered e sound p w i u g = record { turn = tt; hosts = add past x Powered o none (storeOf m) _ e tt w tt (g tt) }
+turned past x o m Other e sound p w i u g = record { turn = tt; hosts = add past x Other o o (storeOf m) _ e tt w (w .sole) (g tt) }
+
+-- what remains of an honest history stands in turn
+pub turns : (past : History) (o : Open) (m : Module) (h : History) → Sound m → Fits o (storeOf m) → Hosts past o (storeOf m) → HonestAfter past h → Plays inner m h → All Remains h → AllInTurn o h
+turns past o m [] s f w u p k = tt
+turns past o m (x ∷ h) s f w u p k =
+    let g = goes x o m s f (p .0) (k .0) in
+    let t = turned past x o m (kindOf x) refl s (p .0) w (g .order) (g .used past (uses-act past (x .event) (u .0))) (g .same-given) in
+    (t .turn, turns (x ∷ past) (opens o (kindOf x)) (inner .next m (x .event)) h (sound-act m (act (x .event)) s) (g .fits) (t .hosts) (u .1) (p .1) (k .1))

@@ -1,0 +1,170 @@
+-- Demand 3, sentence by sentence, over any history of raw calls, ticks and power cycles. docs/DEMAND-3.md walks through it.
+-- Assumes nothing.
+use Prim.Native.Nat.{ℕ, _≤_}
+use mathlib.Core.Path.{_≡_}
+use mathlib.Core.Logic.{_⊎_, _↔_}
+use mathlib.Core.Bool.{Bool, true, false}
+use mathlib.Core.List.{List, [], _∷_}
+use lib.ListN.{length}
+use Rattle.rules.specs.Tests.{_=?_}
+use Rattle.rules.specs.Numbers.{areaSize, lastContext}
+use Rattle.rules.specs.Record.{_is_, fresh, possible}
+use Rattle.rules.specs.Image.{imageOf}
+use Rattle.rules.specs.Transfer.{GetFwInfo, Start, Send, Finish, Query, receivedBytes}
+use Rattle.rules.specs.Module.{Call, OnMask, OnThresholds, OnTransfer, OnSecurity, OnNothing, Module, Event, call, tick, power}
+use Rattle.rules.specs.History.{log, end, Same, only, All, _and-then_}
+use Rattle.rules.specs.Transfers.{outOf, machine, Line, History, Started, callIn, kindOf, none, AllInTurn}
+use Rattle.rules.specs.Sends.{ownSends, pieces, SentBy, FinishedIn, ticks, powerCycles}
+use Rattle.rules.specs.Moves.{moved, ByMoves, rearranged, Unbroken}
+use Rattle.rules.specs.declared.Refusal.the-variants.{R, Status}
+use Rattle.rules.specs.declared.Verdict.{Verdict}
+use Rattle.rules.specs.declared.Verdict.the-variants.{Accepted, Refused}
+use Rattle.rules.specs.declared.Image.the-variants.{Good}
+use Rattle.rules.specs.declared.Phase.the-variants.{Staged}
+
+-- "Begin with a fresh module"; its area is any of the right size.
+abbrev pub freshWith : (area : List ℕ) → Module
+freshWith area = record { device = fresh; area = area }
+
+-- "each host using only context numbers that a Start answered to it". A call carries a context: a Send or a Query in bytes 0 to 3 of its request, a Finish
+-- in bytes 4 to 7. A request too short to carry it uses none.
+abbrev pub Carries : Call → (request : List ℕ) (context : ℕ) → Type 0
+Carries (OnMask revision) request context = ⊥
+Carries (OnThresholds asked) request context = ⊥
+Carries (OnTransfer GetFwInfo) request context = ⊥
+Carries (OnTransfer Start) request context = ⊥
+Carries (OnTransfer (Send c offset size piece)) request context = (4 ≤ length request) × (context ≡ c)
+Carries (OnTransfer (Finish flag c)) request context = (8 ≤ length request) × (context ≡ c)
+Carries (OnTransfer (Query c)) request context = (4 ≤ length request) × (context ≡ c)
+Carries (OnSecurity asked) request context = ⊥
+Carries OnNothing request context = ⊥
+
+-- the host uses the context in this event, whether or not the event is refused
+abbrev pub Uses : Event → (host context : ℕ) → Type 0
+Uses (call caller revision index request answer) host context = (host ≡ caller) × Carries (callIn revision index request) request context
+Uses tick host context = ⊥
+Uses power host context = ⊥
+
+-- an accepted Start of the history answered the context to the host
+abbrev pub AnsweredTo : (host context : ℕ) → History → Type 0
+AnsweredTo host context [] = ⊥
+AnsweredTo host context (x ∷ h) = (kindOf x ≡ Started host context) ⊎ AnsweredTo host context h
+
+-- every context that a host uses was answered to it earlier; `past` is what came before
+abbrev pub HonestAfter : (past h : History) → Type 0
+HonestAfter past [] = Unit {0}
+HonestAfter past (x ∷ h) =
+    ((host context : ℕ) → Uses (x .event) host context → AnsweredTo host context past) × HonestAfter (x ∷ past) h
+
+-- the hosts of the history are honest
+abbrev pub Honest : History → Type 0
+Honest h = HonestAfter [] h
+
+-- "Strike out the refused calls except wrong passphrases." R numbers are refusals; a wrong passphrase is status 11.
+abbrev pub remains : Verdict → Bool
+remains Accepted = true
+remains (Refused (R number)) = false
+remains (Refused (Status status ext)) = status =? 11
+
+-- what remains
+abbrev pub struck : History → History
+struck h = only (λ x. remains (x .got .reply .verdict)) h
+
+-- "What remains gives the same answers and the same end."
+abbrev pub StrikeOut : Module → History → Type 0
+StrikeOut m h = Same machine m h (struck h)
+
+-- "Its transfers stand one after another, each from one host."
+abbrev pub OneAfterAnother : History → Type 0
+OneAfterAnother h = AllInTurn none h
+
+-- the module as the transfer's Finish finds it
+abbrev pub atFinish : Module → {h : History} → FinishedIn h → Module
+atFinish m f = end machine m (f .before and-then f .start ∷ f .between)
+
+-- the received bytes of the area are the pieces of the transfer's own Sends, joined in order
+abbrev pub Received : Module → {h : History} → FinishedIn h → Type 0
+Received m f = receivedBytes (atFinish m f .device .transfer) (atFinish m f .area) ≡ pieces (ownSends (f .context) (f .between))
+
+-- Two senders, one transfer: at a transfer's accepted Finish the received bytes of the area are exactly the pieces of its own Sends, joined in order; every
+-- one of those Sends was made by the host that made its Start, and so was the Finish. No byte of another sender is among them. This is what went wrong at sea.
+pub record OwnPieces (m : Module) {h : History} (f : FinishedIn h) : Type 0 where
+  pub received : Received m f
+  pub one-sender : All (λ x. SentBy (f .starter) (kindOf x)) (ownSends (f .context) (f .between))
+  pub one-finisher : f .finisher ≡ f .starter
+
+-- "All but its own Sends between a transfer's Start and its accepted Finish can move, in its own order, before that Start, and no answer or end changes."
+abbrev pub Move : Module → History → Type 0
+Move m h = (f : FinishedIn h) → Same machine m h (moved f)
+
+-- The same for all finished transfers at once: the rearranged history is made by such moves and nothing else, every finished transfer of h stands in it as
+-- one unbroken Start, Sends, Finish, and no answer or end changes.
+pub record AllMoved (m : Module) (h : History) : Type 0 where
+  pub by-moves : ByMoves h (rearranged h)
+  pub unbroken : (f : FinishedIn h) → Unbroken (rearranged h) f
+  pub same : Same machine m h (rearranged h)
+
+-- The event stages the version: the phase was another, and is Staged afterwards, with this version.
+pub record Stages (m : Module) (event : Event) (version : ℕ) : Type 0 where
+  pub was : (m .device .transfer .phase is Staged) ≡ false
+  pub staged : outOf m event .device .transfer .phase ≡ Staged
+  pub with : outOf m event .device .transfer .staged ≡ version
+
+-- A staging is due: the history ends with an accepted, non-abort Finish of a transfer whose pieces, joined, are a good image of this version; then seven
+-- ticks, and no power cycle.
+pub record Due (h : History) (version : ℕ) : Type 0 where
+  pub transfer : FinishedIn h
+  pub no-abort : transfer .flag ≡ 0
+  pub good : imageOf (pieces (ownSends (transfer .context) (transfer .between))) ≡ Good version
+  pub seven-ticks : ticks (transfer .since) ≡ 7
+  pub no-power-cycle : powerCycles (transfer .since) ≡ 0
+
+-- "exactly when a good image's accepted, non-abort Finish is followed by eight ticks before any power cycle": the next event after the history h stages a
+-- version exactly when it is a tick, the eighth, and that staging is due.
+abbrev pub StagedExactly : Module → History → Type 0
+StagedExactly m h = (event : Event) (version : ℕ) → Stages (end machine m h) event version ↔ ((event ≡ tick) × Due (struck h) version)
+
+-- "An image is staged once": between an entry that stages and a later event that stages there is a power cycle.
+abbrev pub StagedOnce : Module → History → Type 0
+StagedOnce m h =
+    (before between : History) (x : Line) (event : Event) (first second : ℕ)
+    → h ≡ before and-then x ∷ between
+    → Stages (end machine m before) (x .event) first
+    → Stages (end machine m h) event second
+    → 1 ≤ powerCycles between
+
+-- Demand 3, for a module m and a history h from it.
+pub record Demand3 (m : Module) (h : History) : Type 0 where
+  pub strike-out : StrikeOut m h
+  pub one-after-another : OneAfterAnother (struck h)
+  pub own-pieces : (f : FinishedIn (struck h)) → OwnPieces m f
+  pub move : Move m (struck h)
+  pub all-moved : AllMoved m (struck h)
+  pub staged-exactly : StagedExactly m h
+  pub staged-once : StagedOnce m h
+
+-- "Begin with a fresh module, .. and let hosts' calls, ticks and power cycles come in any order, each host using only context numbers that a Start answered
+-- to it."
+abbrev pub Demand : Type 0
+Demand =
+    (area : List ℕ) → length area ≡ areaSize → (events : List Event)
+    → Honest (log machine (freshWith area) events)
+    → Demand3 (freshWith area) (log machine (freshWith area) events)
+
+-- A module whose record is possible and has the declared width of contexts, with an area of the right size.
+pub record Sound (m : Module) : Type 0 where
+  pub record-possible : possible (m .device) ≡ true
+  pub contexts-fit : m .device .transfer .contexts ≤ lastContext
+  pub area-size : length (m .area) ≡ areaSize
+
+-- What holds from every such module, whatever contexts the hosts use.
+pub record FromAnywhere (m : Module) (h : History) : Type 0 where
+  pub strike-out : StrikeOut m h
+  pub move : Move m (struck h)
+  pub all-moved : AllMoved m (struck h)
+  pub staged-once : StagedOnce m h
+
+-- What holds from a fresh module, whatever contexts the hosts use. Only "each from one host" is left: it alone needs honest hosts.
+pub record WithAnyHosts (m : Module) (h : History) : Type 0 where
+  pub received : (f : FinishedIn (struck h)) → Received m f
+  pub staged-exactly : StagedExactly m h

@@ -1,0 +1,78 @@
+-- Vocabulary: machines and their histories, that is, the events that came, each with the answer that it got, in their order. Knows no module.
+-- Assumes nothing.
+use mathlib.Core.Path.{_≡_}
+use mathlib.Core.Bool.{Bool, true, false, not, _||_}
+use mathlib.Core.List.{List, [], _∷_, _++_}
+use Rattle.rules.specs.Tests.{if_then_else_}
+
+-- a machine answers an event, and is in another state afterwards
+pub record Machine (S E A : Type 0) : Type 0 where
+  pub answer : S → E → A
+  pub next : S → E → S
+
+-- an entry of a history: an event, and the answer that it got
+pub record Entry (E A : Type 0) : Type 0 where
+  pub event : E
+  pub got : A
+
+module _ {S E A : Type 0} (M : Machine S E A) where
+  -- the history that these events make, from the state s
+  abbrev pub log : S → List E → List (Entry E A)
+  log s [] = []
+  log s (event ∷ events) = record { event = event; got = M .answer s event } ∷ log (M .next s event) events
+
+  -- from the state s, every event of the history is answered just as the history says
+  abbrev pub Plays : S → List (Entry E A) → Type 0
+  Plays s [] = Unit {0}
+  Plays s (x ∷ h) = (M .answer s (x .event) ≡ x .got) × Plays (M .next s (x .event)) h
+
+  -- the end to which the history comes, from the state s
+  abbrev pub end : S → List (Entry E A) → S
+  end s [] = s
+  end s (x ∷ h) = end (M .next s (x .event)) h
+
+  -- "no answer or end changes": from the state s every event of k is answered just as k says, and k comes to the same end as h
+  pub record Same (s : S) (h k : List (Entry E A)) : Type 0 where
+    pub plays : Plays s k
+    pub ends : end s k ≡ end s h
+
+module _ {X : Type 0} where
+  -- one list, and then another: `a and-then b and-then c` is read from left to right
+  infixr 60 _and-then_
+  abbrev pub _and-then_ : List X → List X → List X
+  h and-then k = h ++ k
+
+  -- x before the others, or left out
+  abbrev pub keep : Bool → X → List X → List X
+  keep true x h = x ∷ h
+  keep false x h = h
+
+  -- those that pass the test, in their own order
+  abbrev pub only : (X → Bool) → List X → List X
+  only test [] = []
+  only test (x ∷ h) = keep (test x) x (only test h)
+
+  -- all but those that pass the test, in their own order
+  abbrev pub except : (X → Bool) → List X → List X
+  except test [] = []
+  except test (x ∷ h) = keep (not (test x)) x (except test h)
+
+  -- whether one passes the test
+  abbrev pub some : (X → Bool) → List X → Bool
+  some test [] = false
+  some test (x ∷ h) = test x || some test h
+
+  -- those before the first that passes the test
+  abbrev pub upTo : (X → Bool) → List X → List X
+  upTo test [] = []
+  upTo test (x ∷ h) = if test x then [] else x ∷ upTo test h
+
+  -- the first that passes the test, with all after it
+  abbrev pub onFrom : (X → Bool) → List X → List X
+  onFrom test [] = []
+  onFrom test (x ∷ h) = if test x then x ∷ h else onFrom test h
+
+  -- every one has the property
+  abbrev pub All : (X → Type 0) → List X → Type 0
+  All P [] = Unit {0}
+  All P (x ∷ h) = P x × All P h

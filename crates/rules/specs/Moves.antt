@@ -1,0 +1,58 @@
+-- Demand 3's move: "All but its own Sends between a transfer's Start and its accepted Finish can move, in its own order, before that Start".
+-- Assumes nothing.
+use Prim.Native.Nat.{ℕ}
+use mathlib.Core.Path.{_≡_}
+use mathlib.Core.Bool.{Bool, false}
+use mathlib.Core.List.{[], _∷_}
+use Rattle.rules.specs.Tests.{if_then_else_, _=?_}
+use Rattle.rules.specs.History.{some, upTo, onFrom, _and-then_}
+use Rattle.rules.specs.Transfers.{Line, History, Kind, Started, Sent, Finished, Ticked, Powered, Other, kindOf}
+use Rattle.rules.specs.Sends.{ownSends, others, FinishedIn}
+
+-- a Start behind the others of what stood between; after it the transfer's own Sends, and what follows
+abbrev pub othersFirst : (context : ℕ) (start : Line) (between rest : History) → History
+othersFirst context start between rest = others context between and-then start ∷ ownSends context between and-then rest
+
+-- the history with one move made
+abbrev pub moved : {h : History} → FinishedIn h → History
+moved f = f .before and-then othersFirst (f .context) (f .start) (f .between) (f .finish ∷ f .since)
+
+-- k comes from h by such moves, one after another, and by nothing else
+pub data ByMoves (h : History) : History → Type 0 where
+  as-it-is : ByMoves h h
+  one-more : {k : History} → ByMoves h k → (f : FinishedIn k) → ByMoves h (moved f)
+
+-- the Finish of the transfer with this context
+abbrev pub finishIn : (context : ℕ) → Kind → Bool
+finishIn context (Started host c) = false
+finishIn context (Sent host c offset piece) = false
+finishIn context (Finished host c flag) = c =? context
+finishIn context Ticked = false
+finishIn context Powered = false
+finishIn context Other = false
+
+-- whether an entry is that Finish
+abbrev pub itsFinish : (context : ℕ) → Line → Bool
+itsFinish context x = finishIn context (kindOf x)
+
+-- A Start that its Finish follows goes behind the others of what stands before that Finish. Every other entry stays.
+abbrev pub settle : Kind → Line → History → History
+settle (Started host context) x h =
+    if some (itsFinish context) h then othersFirst context x (upTo (itsFinish context) h) (onFrom (itsFinish context) h)
+    else x ∷ h
+settle (Sent host context offset piece) x h = x ∷ h
+settle (Finished host context flag) x h = x ∷ h
+settle Ticked x h = x ∷ h
+settle Powered x h = x ∷ h
+settle Other x h = x ∷ h
+
+-- the history with the move made for all its finished transfers at once, from the last one to the first
+abbrev pub rearranged : History → History
+rearranged [] = []
+rearranged (x ∷ h) = settle (kindOf x) x (rearranged h)
+
+-- In k the transfer f of h stands as one unbroken Start, Sends, Finish: its own Sends in their own order, and nothing else between.
+pub record Unbroken (k : History) {h : History} (f : FinishedIn h) : Type 0 where
+  pub ahead : History
+  pub behind : History
+  pub stands : k ≡ ahead and-then f .start ∷ ownSends (f .context) (f .between) and-then f .finish ∷ behind

@@ -1,0 +1,372 @@
+"""Random logs that lead deep: made(SEED, N) is log N of a seed, always the same.
+
+Whole transfers of 1 to 128 records in odd pieces, good and damaged; hosts with right, old and guessed contexts; 7, 8 and 9
+ticks; power cycles in between; passphrases up to and past the limit; freezes; thresholds; bad and short records.
+"""
+import random
+
+import records
+
+SENDS_MOST = 220        # in one transfer
+LAST = 0xFFFFFFFF
+
+
+class Maker:
+    """Makes one log. It keeps a rough idea of the module's state to aim with; no answer is judged by it."""
+
+    def __init__(self, chance):
+        self.chance = chance
+        self.log = []
+        self.phase, self.contexts, self.received, self.ticks = "idle", 0, 0, 0
+        self.sent, self.good = b"", None
+        self.enabled = self.locked = self.frozen = False
+        self.wrong = 0
+        self.secret = b""
+        self.secrets = [b"", b"alpha", b"beta", b"\xff" * 32, bytes(31) + b"\1", self.some_bytes(32)]
+
+    def some_bytes(self, length):
+        return self.chance.getrandbits(8 * length).to_bytes(length, "little") if length else b""
+
+    def one_in(self, number):
+        return self.chance.randrange(number) == 0
+
+    def pick(self, *choices):
+        return self.chance.choice(choices)
+
+    # ---- Steps ----
+
+    def call(self, host, function, request=b"", revision=2):
+        self.log.append(records.call(host, function, request, revision))
+
+    def start(self, host):
+        self.call(host, records.START)
+        if self.phase in ("idle", "failed"):
+            self.phase, self.received, self.sent = "receiving", 0, b""
+            self.contexts += 1
+
+    def send(self, host, context, offset, piece, length=None):
+        self.call(host, records.SEND, records.send(context, offset, piece, length))
+        if (self.phase, context, offset) == ("receiving", self.contexts, self.received) and length in (None, len(piece)) \
+                and 1 <= len(piece) <= 512 and offset + len(piece) <= records.AREA:
+            self.received += len(piece)
+            self.sent += piece
+
+    def finish(self, host, context, flag=0):
+        reserved = self.some_bytes(3) if self.one_in(3) else b""
+        self.call(host, records.FINISH, records.finish(context, flag, reserved))
+        if self.phase == "receiving" and context == self.contexts:
+            if flag == 0:
+                self.phase, self.ticks = "verifying", 8
+            elif flag == 1:
+                self.phase, self.received = "idle", 0
+
+    def tick(self, count=1):
+        for _ in range(count):
+            self.log.append(records.event(records.TICK))
+            if self.phase == "verifying":
+                self.ticks -= 1
+                if self.ticks == 0:
+                    self.phase = "staged" if self.sent == self.good else "failed"
+
+    def power(self):
+        self.log.append(records.event(records.POWER))
+        self.phase, self.received, self.frozen, self.wrong = "idle", 0, False, 0
+        self.locked = self.enabled
+
+    # ---- Contexts and hosts ----
+
+    def context(self):
+        """Right, old, to come, or guessed."""
+        return self.pick(self.contexts, self.contexts, self.contexts, max(0, self.contexts - 1), self.contexts + 1, 0, 1,
+                         self.chance.randrange(self.contexts + 3), self.contexts | 256, self.contexts | 1 << 24, LAST)
+
+    def host(self):
+        return self.pick(1, 1, 1, 2, 2, 3, 3, 4)
+
+    # ---- What comes in between ----
+
+    def stray_send(self):
+        offset = self.pick(self.received, self.received, 0, self.received + 1, max(0, self.received - 1), 16383, 16384, LAST,
+                           self.chance.randrange(records.AREA))
+        size = self.pick(0, 1, 1, 2, 3, 16, 511, 512, 513, 524, self.chance.randrange(1, 513))
+        piece = self.some_bytes(size)
+        length = self.pick(None, None, None, None, size + 1, max(0, size - 1), size + 256, size + 65536, LAST)
+        context = self.pick(self.context(), self.contexts + 1, max(0, self.contexts - 1))
+        self.send(self.host(), context, offset, piece, length)
+
+    def between(self):
+        kind = self.chance.randrange(24)
+        host = self.host()
+        if kind < 4:
+            self.start(host)
+        elif kind < 8:
+            self.stray_send()
+        elif kind < 10:
+            stale = self.pick(max(0, self.contexts - 1), self.contexts + 1, 0, LAST)
+            self.finish(host, stale, self.pick(0, 1))
+        elif kind == 10:
+            self.finish(host, self.context(), self.pick(2, 3, 128, 255))
+        elif kind < 14:
+            self.call(host, records.QUERY, records.query(self.context()))
+        elif kind == 14:
+            self.call(host, records.INFO)
+        elif kind == 15:
+            self.call(host, records.SECURITY)
+        elif kind == 16:
+            self.thresholds()
+        elif kind < 20:
+            self.bad()
+        elif kind == 20:
+            self.passphrase_step()
+        else:
+            self.noise()
+
+    # ---- Whole transfers ----
+
+    def image(self):
+        kind = self.chance.randrange(100)
+        count = (self.chance.randint(1, 4) if kind < 50 else self.chance.randint(5, 40) if kind < 75
+                 else self.chance.randint(41, 127) if kind < 90 else 128)
+        version = self.pick(1, 2, self.chance.randint(1, 300), 1 << 32, 0xFFFFFFFFFFFFFFFF, self.chance.getrandbits(64) | 1)
+        payload = self.pick(None, None, b"", b"\xff" * 112, self.some_bytes(112))
+        fault, at, size = None, None, None
+        if self.one_in(3):
+            fault = self.chance.choice(records.FAULTS)
+            at = self.pick(0, count - 1, self.chance.randrange(count))
+            if fault == "zero-version" and self.one_in(2):
+                at = None
+            if fault == "version" and count == 1:
+                fault = None        # one record's version is the same in all
+            if fault == "size":
+                size = self.pick(0, 1, 127, 128 * count - 1, min(128 * count + 1, records.AREA),
+                                 self.chance.randrange(128 * count), 128 * (count - 1))
+        whole = records.image(count, version, payload, fault, at, size)
+        self.good = whole if fault is None else None
+        if fault is None and count > 1 and self.one_in(12):
+            whole = whole[:128 * self.chance.randrange(1, count)]      # fewer records than they say
+        return whole
+
+    def sizes(self, length):
+        least = max(1, length // SENDS_MOST)
+        choice = self.chance.randrange(6)
+        if choice == 0:
+            return [512]
+        if choice == 1:
+            return [self.pick(511, 509, 128, 129, 127, 256)]
+        if choice == 2 and length <= 400:
+            return [self.pick(1, 2, 3, 7)] if length <= SENDS_MOST else [self.pick(2, 3, 7)]
+        return [self.chance.randint(least, min(512, max(least + 1, 20 * least, 64))) for _ in range(self.chance.randint(1, 9))]
+
+    def transfer(self):
+        host = self.host()
+        if self.phase == "staged" and not self.one_in(6):
+            self.power()
+        if self.phase in ("receiving", "verifying") and not self.one_in(6):
+            self.finish(host, self.contexts, 1)
+            if self.phase == "verifying":
+                self.tick(self.ticks)
+                if self.phase == "staged":
+                    self.power()
+        whole = self.image()
+        self.start(host)
+        if self.phase != "receiving":
+            return
+        context = self.contexts
+        crowd = self.pick(4, 8, 20, 1000)
+        ending = self.chance.randrange(30)
+        stop = self.chance.randrange(len(whole) + 1) if ending < 4 else len(whole)
+        for offset, piece in records.pieces(whole, self.sizes(len(whole))):
+            if self.one_in(crowd):
+                self.between()
+            if offset >= stop:
+                break
+            self.send(host, context, offset, piece)
+        if ending == 0:
+            self.power()
+            self.send(host, context, 0, whole[:self.chance.randint(1, 64)] or b"\1")     # the late piece
+            return
+        if ending == 1:
+            self.finish(host, context, 1)
+            return
+        if ending == 2 and self.one_in(2):
+            return
+        if self.one_in(crowd):
+            self.between()
+        self.finish(host, context, 0)
+        self.verify(host, context, crowd)
+
+    def verify(self, host, context, crowd):
+        for _ in range(self.pick(7, 8, 8, 8, 8, 9, self.chance.randrange(8))):
+            if self.one_in(crowd + 2):
+                self.pick(self.between, lambda: self.finish(host, context, 1), lambda: self.start(self.host()))()
+            self.tick()
+        self.call(host, records.QUERY, records.query(context))
+        if self.one_in(3):
+            self.between()
+        if not self.one_in(3):
+            self.power()
+            self.call(host, records.INFO)
+            if self.one_in(3):
+                self.call(host, records.QUERY, records.query(context))
+                self.tick(self.pick(1, 8))
+
+    # ---- Security ----
+
+    def passphrase_call(self, function, current, new=b""):
+        """20, 21 or 22, and what the idea of the state makes of it."""
+        current, new = records.passphrase(current), records.passphrase(new)
+        request = current + new if function == records.SET_PASSPHRASE else current
+        self.call(self.host(), function, request)
+        right = current == records.passphrase(self.secret)
+        if self.frozen or self.wrong == 10:
+            return
+        if function == records.SET_PASSPHRASE:
+            allowed, right = not self.locked, right or not self.enabled
+        elif function == records.DISABLE:
+            allowed = self.enabled and not self.locked
+        else:
+            allowed = self.enabled and self.locked
+        if not allowed:
+            return
+        if not right:
+            self.wrong += 1
+            return
+        self.wrong = 0
+        if function == records.SET_PASSPHRASE:
+            self.enabled, self.secret = True, new
+        elif function == records.DISABLE:
+            self.enabled, self.secret = False, b""
+        else:
+            self.locked = False
+
+    def near(self):
+        """The passphrase with one bit turned, or another one."""
+        right = bytearray(records.passphrase(self.secret))
+        right[self.pick(0, 31, self.chance.randrange(32))] ^= 1 << self.chance.randrange(8)
+        return self.pick(bytes(right), bytes(right), self.chance.choice(self.secrets))
+
+    def fitting(self):
+        """A function that looks at the passphrase in this state."""
+        return records.UNLOCK if self.locked else self.pick(records.DISABLE, records.SET_PASSPHRASE)
+
+    def passphrase_step(self):
+        kind = self.chance.randrange(10)
+        any_of = self.pick(records.SET_PASSPHRASE, records.DISABLE, records.UNLOCK)
+        if kind < 3:
+            self.passphrase_call(self.fitting(), self.near(), self.chance.choice(self.secrets))
+        elif kind < 6:
+            self.passphrase_call(self.fitting(), self.secret, self.chance.choice(self.secrets))
+        elif kind < 8:
+            self.passphrase_call(any_of, self.pick(self.secret, self.near()), self.chance.choice(self.secrets))
+        elif kind == 8:
+            self.call(self.host(), records.SECURITY)
+        elif self.one_in(4):
+            self.freeze()
+        else:
+            self.call(self.host(), any_of, self.some_bytes(self.pick(0, 31, 33, 63, 65, 64, 32)))
+
+    def freeze(self):
+        self.call(self.host(), records.FREEZE)
+        if self.wrong < 10:
+            self.frozen = True
+
+    def security(self):
+        if not self.enabled or self.one_in(4):
+            self.passphrase_call(records.SET_PASSPHRASE, self.secret, self.chance.choice(self.secrets))
+        if self.one_in(2):
+            self.power()
+        for _ in range(self.pick(0, 1, 2, 5, 8, 9, 9, 10, 10, 11, 12)):
+            self.passphrase_call(self.fitting(), self.near(), self.chance.choice(self.secrets))
+            if self.one_in(15):
+                self.between()
+        self.call(self.host(), records.SECURITY)
+        if self.one_in(5):
+            self.freeze()
+        self.passphrase_call(self.fitting(), self.secret, self.chance.choice(self.secrets))
+        self.call(self.host(), records.SECURITY)
+        for _ in range(self.chance.randrange(6)):
+            self.passphrase_step()
+        if self.one_in(2):
+            self.power()
+            self.call(self.host(), records.SECURITY)
+
+    # ---- The rest ----
+
+    def thresholds(self):
+        word = self.pick(0, 1, 7, 0xFFFF, 0x8000, 0x7FFF, self.chance.getrandbits(16))
+        spare = self.pick(0, 1, 50, 99, 100, 100, 101, 101, 128, 255, self.chance.randrange(256))
+        request = records.set_threshold(self.pick(0, 7, 8, 0xFFFF, self.chance.getrandbits(16)), spare, word,
+                                        self.chance.getrandbits(16))
+        self.call(self.host(), records.SET_THRESHOLD, request)
+        self.call(self.host(), records.GET_THRESHOLD, b"", self.pick(1, 2))
+
+    def noise(self):
+        function = self.pick(*records.NAMES, *records.NAMES, 0, 0, 1, 3, 11, 18, 24, 25, 32, 256 + records.START, 0xFFFF,
+                             self.chance.getrandbits(16))
+        revision = self.pick(0, 1, 1, 2, 2, 2, 2, 3, 257, 258, 514, 0xFFFF, self.chance.getrandbits(16))
+        right = records.REQUEST_BYTES.get(function, 12)
+        length = self.pick(right, right + 1, max(0, right - 1), 0, 536, self.chance.randrange(537))
+        before = len(self.log)
+        if function == records.START and revision == 2 and length == 0:
+            self.start(self.host())
+        elif function == records.FREEZE and revision == 2 and length == 0:
+            self.freeze()
+        else:
+            self.call(self.host(), function, self.pick(bytes(length), self.some_bytes(length)), revision)
+        assert len(self.log) == before + 1
+
+    def bad(self):
+        """A record that would do something, but for one byte or two."""
+        record = self.pick(records.call(1, records.START), records.call(2, records.FINISH, records.finish(self.contexts, 1)),
+                           records.event(records.TICK), records.event(records.POWER),
+                           records.call(1, records.SEND, records.send(self.contexts, self.received, b"bad")))
+        kind = self.chance.randrange(6)
+        if kind == 0:
+            record = records.poke(record, 0, self.pick(0, 4, 5, 17, 129, 255))
+        elif kind == 1:
+            record = records.poke(record, 1, self.pick(0, 5, 6, 128, 255) if record[0] == records.CALL else self.pick(1, 2, 255))
+        elif kind == 2:
+            record = record[:6] + records.le(self.pick(537, 538, 544, 1024, 0xFFFF), 2) + record[8:]
+        elif kind == 3:
+            record = records.poke(record, self.pick(543, 542, 100, 300), self.pick(1, 128, 255))
+        elif kind == 4:
+            record = self.some_bytes(records.RECORD)
+        else:
+            record = bytes(records.RECORD)
+        if records.why_bad(record):
+            self.log.append(record)
+
+    def episode(self):
+        kind = self.chance.randrange(22)
+        if kind < 11:
+            self.transfer()
+        elif kind < 15:
+            self.security()
+        elif kind == 15:
+            self.thresholds()
+        elif kind == 16:
+            self.power()
+        elif kind == 17:
+            self.tick(self.pick(1, 7, 8, 9))
+        else:
+            for _ in range(self.chance.randrange(16)):
+                self.between()
+
+    def make(self):
+        kind = self.chance.randrange(200)
+        if kind == 0:
+            return self.some_bytes(self.chance.randrange(20 * records.RECORD))
+        for _ in range(0 if kind < 5 else self.pick(1, 2, 3, 4, 6, 9)):
+            self.episode()
+        if kind == 5:
+            self.tick(self.pick(1000, 1500))
+            self.episode()
+        log = b"".join(self.log)
+        if self.one_in(3):
+            record = self.chance.choice(self.log) if self.log else records.event(records.TICK)
+            log += record[:self.pick(1, 2, 8, 10, 543, self.chance.randrange(1, records.RECORD))]
+        return log
+
+
+def made(seed, number):
+    return Maker(random.Random(f"{seed}/{number}")).make()
