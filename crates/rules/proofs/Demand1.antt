@@ -9,7 +9,7 @@ use Rattle.rules.specs.Bytes.{zeros}
 use Rattle.rules.specs.Refusals.{Check, _gives_, verdict, statusBytes, statusLength, answerAfter}
 use Rattle.rules.specs.Table.{table, rowOf}
 use Rattle.rules.specs.Module.{Call, callOf, checks, accepted, callChecks, outcome, callResult}
-use Rattle.rules.specs.Demand1.{numbered, column, RefusedBy, Begins, Answered, Demand1}
+use Rattle.rules.specs.Demand1.{numbered, column, RefusedBy, Begins, Answered, OfCall, Demand1}
 use Rattle.rules.specs.declared.Function.{Function}
 use Rattle.rules.specs.declared.Function.the-variants.{Mask, GetThreshold, GetFwInfo, Start, Send, Finish, Query, SetThreshold, GetSecurityState, SetPassphrase, Disable, Unlock, Freeze, Unserved}
 use Rattle.rules.specs.declared.Row.{Row}
@@ -19,6 +19,7 @@ use Rattle.rules.specs.declared.Verdict.{Verdict}
 use Rattle.rules.specs.declared.Verdict.the-variants.{Accepted, Refused}
 use Rattle.rules.specs.declared.Device.{Device}
 use Rattle.rules.proofs.Rows.{looked-up}
+use Rattle.rules.proofs.Possible.{possible-fresh, possible-next, area-next, only-R1}
 
 -- a refusal that a function with an answer of n bytes may give: it has a number, and its column is its length
 abbrev Allowed : (n : ℕ) → Refusal → Type 0
@@ -153,9 +154,9 @@ module _ (d : Device) (area : List ℕ) (revision index : ℕ) (request answer :
         begins = accepted-begins d (rowOf index .function) revision request;
       })
 
-  pub demand-1 : Demand1 d area revision index request answer
+  of-call : OfCall d area revision index request answer
   unfolding callResult judged
-  demand-1 =
+  of-call =
       record {
         numbers = λ refusal e. numbers-of (rowOf index .answer) refusal (allowed refusal (sym replied ∙ e));
         leaves = λ refusal e.
@@ -164,3 +165,16 @@ module _ (d : Device) (area : List ℕ) (revision index : ℕ) (request answer :
             (refused-by refusal d area (callOf (rowOf index .function) revision request) (rowOf index .answer) answer (allowed refusal f));
         answers = λ e. answered (sym replied ∙ e);
       }
+
+pub demand-1 : Demand1
+demand-1 =
+    record {
+      calls = of-call;
+      events = λ d area event p l.
+          record {
+            stays-possible = possible-next d area event p l;
+            keeps-size = area-next d area event p l;
+            only-R1 = λ number e. only-R1 d area event number p l e;
+          };
+      begins = possible-fresh;
+    }

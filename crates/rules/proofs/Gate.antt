@@ -8,7 +8,8 @@ use Rattle.rules.specs.History.{Plays, end, All, Same}
 use Rattle.rules.specs.Transfers.{Answer, machine, Line, History}
 use Rattle.rules.specs.Demand.{remains, Sound}
 use Rattle.rules.proofs.Parts.{act, inner}
-use Rattle.rules.proofs.Through.{short, Through, shut}
+use Rattle.rules.proofs.Through.{Through, shut}
+use Rattle.rules.specs.Demand1.{short}
 use Rattle.rules.proofs.Facts.{Kept}
 use Rattle.rules.proofs.Possible.{sound-act, sound-through}
 

@@ -9,8 +9,7 @@ pub mod Rows
 pub mod Fitting
 pub mod Told
 pub mod Agree
--- Demand 1.
-pub mod Demand1
+pub mod Frozen
 -- Demand 3: machines and histories, which know no module; then the module's part.
 pub mod Joining
 pub mod Swapping
@@ -36,3 +35,5 @@ pub mod Due
 pub mod Demand
 pub mod Checked
 pub mod Incident
+-- Demand 1.
+pub mod Demand1

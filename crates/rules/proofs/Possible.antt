@@ -19,7 +19,8 @@ use Rattle.rules.specs.declared.Refusal.the-variants.{R}
 use Rattle.rules.specs.declared.Verdict.the-variants.{Refused}
 use Rattle.rules.specs.declared.Device.{Device}
 use Rattle.rules.proofs.Parts.{Act, act, nexts}
-use Rattle.rules.proofs.Through.{short, numbered, Through, through, gate-numbered, shut}
+use Rattle.rules.proofs.Through.{numbered, Through, through, gate-numbered, shut}
+use Rattle.rules.specs.Demand1.{short}
 use Rattle.rules.proofs.Keeps.{Ok, ok-next, ok-possible, possible-ok, fit-next}
 
 -- "Fresh" is possible.

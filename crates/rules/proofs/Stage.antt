@@ -24,7 +24,8 @@ use Rattle.rules.specs.declared.Transfer.{Transfer}
 use Rattle.rules.proofs.Choice.{if-both}
 use Rattle.rules.proofs.Joining.{end-join}
 use Rattle.rules.proofs.Parts.{Store, storeOf, Act, Transfers, Others, Ticks, Powers, act, actOf, unserved?, misfit?, storeVerdict, storeChange, storeNext, storeTick, nexts, actKind}
-use Rattle.rules.proofs.Through.{short, shut, kind-act}
+use Rattle.rules.proofs.Through.{shut, kind-act}
+use Rattle.rules.specs.Demand1.{short}
 use Rattle.rules.proofs.Facts.{never, start-ok, send-ok, finish-ok, Tick, calm, counting, good, bad, tick-case}
 use Rattle.rules.proofs.Keeps.{store-when}
 use Rattle.rules.proofs.Possible.{sound-through, sound-next, sound-end}

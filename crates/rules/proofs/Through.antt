@@ -17,6 +17,7 @@ use Rattle.rules.specs.Transfer.{TransferCall, GetFwInfo, Start, Send, F
 use Rattle.rules.specs.Module.{Call, OnMask, OnThresholds, OnTransfer, OnSecurity, OnNothing, Module, Event, call, tick, power, after, checks, accepted, outcome, callChecks, callResult, tickResult, powerResult}
 use Rattle.rules.specs.Transfers.{Answer, outOf, machine, Line, callIn, callKind, kindOf, eventKind}
 use Rattle.rules.specs.Demand.{remains}
+use Rattle.rules.specs.Demand1.{short}
 use Rattle.rules.specs.declared.Refusal.the-variants.{R, Status}
 use Rattle.rules.specs.declared.Verdict.{Verdict}
 use Rattle.rules.specs.declared.Verdict.the-variants.{Accepted, Refused}
@@ -104,12 +105,6 @@ outcome-rest Accepted m (Locks x) n answer = refl
 outcome-rest Accepted m Nothing n answer = refl
 outcome-rest (Refused (R number)) m x n answer = refl
 outcome-rest (Refused (Status status ext)) m x n answer = missed (status =? 11) m
-
--- the answer buffer is too short for a call
-abbrev pub short : Event → Bool
-short (call host revision index request answer) = length answer <? answerRoom
-short tick = false
-short power = false
 
 pub record Through (m : Module) (event : Event) : Type 0 where
   pub answers-as : machine .answer m event ≡ inner .answer m event

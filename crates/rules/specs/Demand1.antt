@@ -3,15 +3,17 @@
 -- That a call ends is proved of the code, with every function of it. What it answers is said here, of the definitions.
 -- Assumes nothing.
 use mathlib.Core.Path.{_≡_}
-use mathlib.Core.Bool.{Bool, true, _&&_, _||_}
+use mathlib.Core.Bool.{Bool, true, false, _&&_, _||_}
 use mathlib.Core.List.{List, [], _∷_, _++_}
 use Prim.Native.Nat.{ℕ, _-_}
 use lib.ListN.{length, take}
-use Rattle.rules.specs.Tests.{if_then_else_, _≤?_, _=?_}
+use Rattle.rules.specs.Tests.{if_then_else_, _≤?_, _<?_, _=?_}
 use Rattle.rules.specs.Bytes.{zeros}
+use Rattle.rules.specs.Numbers.{areaSize, answerRoom}
+use Rattle.rules.specs.Record.{fresh, possible}
 use Rattle.rules.specs.Refusals.{statusBytes, answerAfter, oneAttemptMore}
 use Rattle.rules.specs.Table.{rowOf}
-use Rattle.rules.specs.Module.{Result, callResult}
+use Rattle.rules.specs.Module.{Result, callResult, Event, call, tick, power, step}
 use Rattle.rules.specs.declared.Function.{Function}
 use Rattle.rules.specs.declared.Function.the-variants.{Mask, GetThreshold, GetFwInfo, Start, Send, Finish, Query, SetThreshold, GetSecurityState, SetPassphrase, Disable, Unlock, Freeze, Unserved}
 use Rattle.rules.specs.declared.Row.{Row}
@@ -71,9 +73,28 @@ pub record Answered (row : Row) (answer : List ℕ) (result : Result) : Type 0 w
   pub begins : Begins (row .function) bytes
 
 -- Demand 1 of a call
-pub record Demand1 (d : Device) (area : List ℕ) (revision index : ℕ) (request answer : List ℕ) : Type 0 where
+pub record OfCall (d : Device) (area : List ℕ) (revision index : ℕ) (request answer : List ℕ) : Type 0 where
   pub numbers : (refusal : Refusal) → callResult d area revision index request answer .reply .verdict ≡ Refused refusal → numbered refusal ≡ true
   pub leaves : (refusal : Refusal) → callResult d area revision index request answer .reply .verdict ≡ Refused refusal
       → RefusedBy refusal d area (rowOf index .answer) answer (callResult d area revision index request answer)
   pub answers : callResult d area revision index request answer .reply .verdict ≡ Accepted
       → Answered (rowOf index) answer (callResult d area revision index request answer)
+
+-- the answer buffer is too short for a call
+abbrev pub short : Event → Bool
+short (call host revision index request answer) = length answer <? answerRoom
+short tick = false
+short power = false
+
+-- Every event, a call, a tick or a power cycle, takes a possible record to a possible record and keeps the area's size; and it needs no R number but R1, for
+-- an answer buffer that is too short.
+pub record OfEvent (d : Device) (area : List ℕ) (event : Event) : Type 0 where
+  pub stays-possible : possible (step d area event .device) ≡ true
+  pub keeps-size : length (step d area event .area) ≡ areaSize
+  pub only-R1 : (number : ℕ) → step d area event .reply .verdict ≡ Refused (R number) → (number ≡ 1) × (short event ≡ true)
+
+-- Demand 1: any call with any bytes and any device record; and a fresh module's record is possible, so that what is said of events holds from there on.
+pub record Demand1 : Type 0 where
+  pub calls : (d : Device) (area : List ℕ) (revision index : ℕ) (request answer : List ℕ) → OfCall d area revision index request answer
+  pub events : (d : Device) (area : List ℕ) (event : Event) → possible d ≡ true → length area ≡ areaSize → OfEvent d area event
+  pub begins : possible fresh ≡ true

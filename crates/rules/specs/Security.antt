@@ -39,13 +39,14 @@ wrong s given = not (same? given (s .passphrase))
 abbrev pub setPassphraseOf : (request : List ℕ) → SecurityCall
 setPassphraseOf request = SetPassphrase (take 32 request) (drop 32 request)
 
+-- The checks of a call that carries a passphrase: the frozen state first, then what the call is forbidden by, then the passphrase.
+abbrev pub passphraseChecks : Security → (forbidden unequal : Bool) → List Check
+passphraseChecks s forbidden unequal =
+    frozenCheck s ∷ (forbidden gives Status 10 0) ∷ (unequal gives Status 11 0) ∷ []
+
 -- "Set: locked gives 10; enabled and current passphrase unequal gives 11;" "(not enabled: the current field is ignored)"
 abbrev pub setPassphraseChecks : Security → (given : List ℕ) → List Check
-setPassphraseChecks s given =
-    frozenCheck s
-    ∷ (s .locked gives Status 10 0)
-    ∷ (s .enabled && wrong s given gives Status 11 0)
-    ∷ []
+setPassphraseChecks s given = passphraseChecks s (s .locked) (s .enabled && wrong s given)
 
 -- "else the new one is stored, enabled on, attempts 0" "Any 32 bytes may be a passphrase."
 abbrev pub setPassphraseChange : Security → (new : List ℕ) → Security
@@ -53,11 +54,7 @@ setPassphraseChange s new = s with-passphrase new with-enabled true with-attempt
 
 -- "Disable: 10 unless enabled and not locked; unequal 11;"
 abbrev pub disableChecks : Security → (given : List ℕ) → List Check
-disableChecks s given =
-    frozenCheck s
-    ∷ (not (s .enabled && not (s .locked)) gives Status 10 0)
-    ∷ (wrong s given gives Status 11 0)
-    ∷ []
+disableChecks s given = passphraseChecks s (not (s .enabled && not (s .locked))) (wrong s given)
 
 -- "else enabled off, passphrase zero, attempts 0."
 abbrev pub disableChange : Security → Security
@@ -65,11 +62,7 @@ disableChange s = s with-enabled false with-passphrase (zeros 32) with-attempts 
 
 -- "Unlock: 10 unless enabled and locked; unequal 11;"
 abbrev pub unlockChecks : Security → (given : List ℕ) → List Check
-unlockChecks s given =
-    frozenCheck s
-    ∷ (not (s .enabled && s .locked) gives Status 10 0)
-    ∷ (wrong s given gives Status 11 0)
-    ∷ []
+unlockChecks s given = passphraseChecks s (not (s .enabled && s .locked)) (wrong s given)
 
 -- "else locked off, attempts 0."
 abbrev pub unlockChange : Security → Security
