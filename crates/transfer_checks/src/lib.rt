@@ -85,12 +85,12 @@ pub fn judge_query(t: Transfer, request: &[u8]) -> Verdict
     let p = t.phase;
     let n = record::phase_number(p);
     let context = base::word(request, 0);
-    let dead = !(!(n == 0) & (context == t.contexts));
+    let stale = !(!(n == 0) & (context == t.contexts));
     let receiving = n == 1;
     let verifying = n == 2;
     let failed = n == 4;
     let none = t.staged == 0;
-    if dead {
+    if stale {
         return Verdict::Refused(Refusal::Status { status: 7, ext: 1 });
     }
     if receiving {
