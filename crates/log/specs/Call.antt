@@ -1,0 +1,10 @@
+-- The call that a call record holds.
+-- Assumes nothing.
+use mathlib.Core.List.{List}
+use Prim.Native.Nat.{ℕ}
+use Rattle.rules.specs.Log.{hostIn, revisionIn, functionIn, lengthIn}
+use Rattle.rules.specs.declared.Entry.{Entry}
+use Rattle.rules.specs.declared.Entry.the-variants.{Call}
+
+abbrev pub callIn : List ℕ → Entry
+callIn bytes = Call (hostIn bytes) (revisionIn bytes) (functionIn bytes) (lengthIn bytes)

@@ -1,0 +1,226 @@
+// The replay of a log: what each record does to the module, and the text of it, written into a lent buffer.
+ghost use mathlib.Core.Path.{_≡_};
+ghost use mathlib.Core.Bool.{true};
+ghost use Prim.Native.Nat.{_+_, _*_, _^_, _≤_, _<_};
+ghost use lib.ListN.{length};
+ghost use Rattle.rules.specs.Text.{field};
+ghost use Rattle.rules.specs.Module.{after, tickResult, powerResult};
+ghost use Rattle.rules.specs.Log.{recordsIn};
+ghost use Rattle.rules.specs.Replay.{replayCall, printedStatus, printedExt, callLine, heading, tailLine, lastLine};
+ghost use Rattle.text.specs.Wrote.{Wrote};
+ghost use Rattle.replay.specs.Replayed.{Replayed, CallReplayed, RecordReplayed, PartReplayed, moduleOf};
+use rules::Device;
+use rules::Entry;
+use rules::Refusal;
+use rules::Reply;
+use rules::Verdict;
+
+// The place after what was written, and the record after what was played.
+pub struct Played {
+    pub at: usize,
+    pub device: Device,
+}
+
+pub fn put_heading(out: &mut [u8], at: usize) -> usize
+    requires { ⌜ at + 96 ≤ length (now out) ⌝ }
+    ensures { λ r. ⌜ r ≤ at + 96 ⌝ }
+    ensures { λ r. ⌜ Wrote (now (out .entry)) at heading (now (out .exit)) r ⌝ }
+{
+    text::put(out, at, b"record kind status ext length\n")
+}
+
+// The line of a tail that is no whole record.
+pub fn put_tail(out: &mut [u8], at: usize, number: u64) -> usize
+    requires { ⌜ at + 96 ≤ length (now out) ⌝ }
+    ensures { λ r. ⌜ r ≤ at + 96 ⌝ }
+    ensures { λ r. ⌜ Wrote (now (out .entry)) at (tailLine number true) (now (out .exit)) r ⌝ }
+{
+    text::put_field(out, at, number, b" short\n")
+}
+
+pub fn put_last(out: &mut [u8], at: usize, d: Device) -> usize
+    requires { ⌜ at + 96 ≤ length (now out) ⌝ }
+    ensures { λ r. ⌜ r ≤ at + 96 ⌝ }
+    ensures { λ r. ⌜ Wrote (now (out .entry)) at (lastLine d) (now (out .exit)) r ⌝ }
+{
+    let transfer = d.transfer;
+    let phase = transfer.phase;
+    let named = text::put(out, at, b"end ");
+    let spaced = text::put_phase(out, named, phase);
+    let counted = text::put(out, spaced, b" ");
+    text::put_field(out, counted, transfer.contexts as u64, b"\n")
+}
+
+fn printed_status(verdict: Verdict) -> u64
+    ensures { λ r. ⌜ r ≡ printedStatus verdict ⌝ }
+{
+    match verdict {
+        Verdict::Accepted => 0,
+        Verdict::Refused(refusal) => match refusal {
+            Refusal::R { number } => number as u64,
+            Refusal::Status { status, ext: _ } => status as u64,
+        },
+    }
+}
+
+fn printed_ext(verdict: Verdict) -> u64
+    ensures { λ r. ⌜ r ≡ printedExt verdict ⌝ }
+{
+    match verdict {
+        Verdict::Accepted => 0,
+        Verdict::Refused(refusal) => match refusal {
+            Refusal::R { number: _ } => 0,
+            Refusal::Status { status: _, ext } => ext as u64,
+        },
+    }
+}
+
+// The line of a call. Function 0 has no status to print.
+fn put_call(out: &mut [u8], at: usize, number: u64, function: u64, reply: Reply) -> usize
+    requires { ⌜ at + 96 ≤ length (now out) ⌝ }
+    ensures { λ r. ⌜ r ≤ at + 96 ⌝ }
+    ensures { λ r. ⌜ Wrote (now (out .entry)) at (callLine number function reply) (now (out .exit)) r ⌝ }
+{
+    let verdict = reply.verdict;
+    let length = reply.length as u64;
+    let mask = function == 0;
+    if mask {
+        let next = text::put_field(out, at, number, b" call - - ");
+        return text::put_field(out, next, length, b"\n");
+    }
+    let status = printed_status(verdict);
+    let ext = printed_ext(verdict);
+    let a = text::put_field(out, at, number, b" call ");
+    let b = text::put_field(out, a, status, b" ");
+    let c = text::put_field(out, b, ext, b" ");
+    text::put_field(out, c, length, b"\n")
+}
+
+// The answer buffer is lent by the caller, so that it is made once for a log.
+fn play_call(
+    out: &mut [u8],
+    at: usize,
+    number: u64,
+    d: Device,
+    area: &mut [u8],
+    answer: &mut [u8],
+    revision: u64,
+    function: u64,
+    request: &[u8],
+) -> Played
+    requires { ⌜ at + 96 ≤ length (now out) ⌝ }
+    requires { ⌜ length (now answer) ≡ 64 ⌝ }
+    ensures { λ r. ⌜ r .at ≤ at + 96 ⌝ }
+    ensures { λ r. ⌜ CallReplayed number function (replayCall (moduleOf d (now (area .entry))) revision function (now (request .entry))) (now (out .entry)) at (now (out .exit)) (now (area .exit)) r ⌝ }
+{
+    let outcome = module::call(d, area, revision, function, request, answer);
+    let reply = outcome.reply;
+    let device = outcome.device;
+    let next = put_call(out, at, number, function, reply);
+    Played { at: next, device }
+}
+
+fn play_tick(out: &mut [u8], at: usize, number: u64, d: Device, area: &[u8]) -> Played
+    requires { ⌜ at + 96 ≤ length (now out) ⌝ }
+    ensures { λ r. ⌜ r .at ≤ at + 96 ⌝ }
+    ensures { λ r. ⌜ Replayed (field number " tick\n") (after (tickResult d (now (area .entry)))) (now (out .entry)) at (now (out .exit)) (now (area .entry)) r ⌝ }
+{
+    let outcome = module::tick(d, area);
+    let ticked = outcome.device;
+    let next = text::put_field(out, at, number, b" tick\n");
+    Played {
+        at: next,
+        device: ticked,
+    }
+}
+
+fn play_power(out: &mut [u8], at: usize, number: u64, d: Device, area: &[u8]) -> Played
+    requires { ⌜ at + 96 ≤ length (now out) ⌝ }
+    ensures { λ r. ⌜ r .at ≤ at + 96 ⌝ }
+    ensures { λ r. ⌜ Replayed (field number " power\n") (after (powerResult d (now (area .entry)))) (now (out .entry)) at (now (out .exit)) (now (area .entry)) r ⌝ }
+{
+    let outcome = module::power(d, area);
+    let started = outcome.device;
+    let next = text::put_field(out, at, number, b" power\n");
+    Played {
+        at: next,
+        device: started,
+    }
+}
+
+// One record of a log is played on the module, and its line is written. The answer buffer may hold anything.
+pub fn play(
+    out: &mut [u8],
+    at: usize,
+    number: u64,
+    d: Device,
+    area: &mut [u8],
+    answer: &mut [u8],
+    bytes: &[u8],
+) -> Played
+    requires { ⌜ at + 96 ≤ length (now out) ⌝ }
+    requires { ⌜ length (now answer) ≡ 64 ⌝ }
+    ensures { λ r. ⌜ r .at ≤ at + 96 ⌝ }
+    ensures { λ r. ⌜ RecordReplayed number (moduleOf d (now (area .entry))) (now (bytes .entry)) (now (out .entry)) at (now (out .exit)) (now (area .exit)) r ⌝ }
+{
+    let entry = log::decode(bytes);
+    match entry {
+        Entry::Call {
+            host: _,
+            revision,
+            function,
+            length,
+        } => {
+            let v = revision as u64;
+            let f = function as u64;
+            let end = 8 + length as usize;
+            play_call(out, at, number, d, area, answer, v, f, &bytes[8..end])
+        }
+        Entry::Tick => play_tick(out, at, number, d, area),
+        Entry::Power => play_power(out, at, number, d, area),
+        Entry::Bad => {
+            let next = text::put_field(out, at, number, b" bad\n");
+            Played {
+                at: next,
+                device: d,
+            }
+        }
+    }
+}
+
+// A part of a log that is whole records is played record by record, the first of which has the number given.
+pub fn put_lines(
+    out: &mut [u8],
+    part: &[u8],
+    number: u64,
+    d: Device,
+    area: &mut [u8],
+    answer: &mut [u8],
+) -> Played
+    requires { ⌜ recordsIn (now part) * 96 ≤ length (now out) ⌝ }
+    requires { ⌜ number + recordsIn (now part) < 2 ^ 64 ⌝ }
+    requires { ⌜ length (now answer) ≡ 64 ⌝ }
+    ensures { λ r. ⌜ r .at ≤ recordsIn (now (part .entry)) * 96 ⌝ }
+    ensures { λ r. ⌜ PartReplayed number (moduleOf d (now (area .entry))) (now (part .entry)) (now (out .entry)) (now (out .exit)) (now (area .exit)) r ⌝ }
+{
+    let count = part.len() / 544;
+    let mut played = Played { at: 0, device: d };
+    let mut j = 0;
+    while j < count {
+        let at = played.at;
+        let device = played.device;
+        let place = j * 544;
+        let end = place + 544;
+        played = play(
+            out,
+            at,
+            number + j as u64,
+            device,
+            area,
+            answer,
+            &part[place..end],
+        );
+        j += 1;
+    }
+    played
+}

@@ -1,0 +1,159 @@
+// Replays logs: for each log that an argument names, the text of document 01, "The replay program", one text after another. `-` is standard input.
+// What cannot be read or written is named on standard error; the other logs are replayed all the same.
+ghost use Prim.Native.Nat.{_+_, _≤_};
+ghost use mathlib.Core.Path.{_≡_};
+ghost use lib.ListN.{length};
+use files::Filled;
+use libc::STDIN_FILENO;
+use replay::Played;
+use rules::Device;
+
+fn show_heading(out: &mut [u8; 12288]) -> bool {
+    let end = replay::put_heading(out, 0);
+    files::show(out, end)
+}
+
+// The line of a short tail, if there is one, and the last line.
+fn show_end(out: &mut [u8; 12288], number: u64, short: bool, d: Device) {
+    if short {
+        let tail = replay::put_tail(out, 0, number);
+        let end = replay::put_last(out, tail, d);
+        files::show(out, end);
+        return;
+    }
+    let end = replay::put_last(out, 0, d);
+    files::show(out, end);
+}
+
+// The lines of the front of a buffer, of at most 120 records.
+fn put_part(
+    out: &mut [u8],
+    buf: &[u8],
+    have: usize,
+    number: u64,
+    d: Device,
+    area: &mut [u8],
+    answer: &mut [u8],
+) -> Played
+    requires { ⌜ (have ≤ 65280) × (have ≤ length (now buf)) ⌝ }
+    requires { ⌜ number ≤ 9000000000000000000 ⌝ }
+    requires { ⌜ (12288 ≤ length (now out)) × (length (now answer) ≡ 64) ⌝ }
+{
+    replay::put_lines(out, &buf[..have], number, d, area, answer)
+}
+
+// Where a log stands: whether there is more of it, the number of the next record, and the device record.
+pub struct Turn {
+    pub more: bool,
+    pub number: u64,
+    pub device: Device,
+}
+
+// What was read of a log is replayed; what is less than a whole buffer ends it. A log that stops being readable has no last line.
+fn replay_filled(
+    name: &[u8],
+    filled: Filled,
+    number: u64,
+    d: Device,
+    buf: &[u8; 65280],
+    out: &mut [u8; 12288],
+    area: &mut [u8; 16384],
+    answer: &mut [u8; 64],
+) -> Turn
+    requires { ⌜ filled .have ≤ 65280 ⌝ }
+    requires { ⌜ number ≤ 9000000000000000000 ⌝ }
+    ensures { λ r. ⌜ r .number ≤ number + 120 ⌝ }
+{
+    let have = filled.have;
+    let failed = filled.failed;
+    let played = put_part(out, buf, have, number, d, area, answer);
+    let device = played.device;
+    let at = played.at;
+    let written = files::show(out, at);
+    let number = number + (have / 544) as u64;
+    let last = Turn {
+        more: false,
+        number,
+        device,
+    };
+    if !written {
+        return last;
+    }
+    if failed {
+        os::fail(name);
+        return last;
+    }
+    if have < 65280 {
+        show_end(out, number, have % 544 != 0, device);
+        return last;
+    }
+    Turn {
+        more: true,
+        number,
+        device,
+    }
+}
+
+// One log, part by part, so that memory does not grow with it.
+fn replay_log(
+    fd: i32,
+    name: &[u8],
+    buf: &mut [u8; 65280],
+    out: &mut [u8; 12288],
+    area: &mut [u8; 16384],
+    answer: &mut [u8; 64],
+) {
+    let first = files::fill(fd, buf);
+    if first.failed & (first.have == 0) {
+        os::fail(name);
+        return;
+    }
+    if !show_heading(out) {
+        return;
+    }
+    let mut turn = replay_filled(name, first, 0, module::fresh(), buf, out, area, answer);
+    let mut turns: u64 = 72057594037927936;
+    while turns > 0 {
+        if !turn.more {
+            return;
+        }
+        let filled = files::fill(fd, buf);
+        let number = turn.number;
+        let device = turn.device;
+        turn = replay_filled(name, filled, number, device, buf, out, area, answer);
+        turns -= 1;
+    }
+}
+
+fn replay_named(name: &[u8], buf: &mut [u8; 65280], out: &mut [u8; 12288]) {
+    let mut area = [0u8; 16384];
+    let mut answer = [0u8; 64];
+    if base::same(name, b"-") {
+        replay_log(STDIN_FILENO, name, buf, out, &mut area, &mut answer);
+        return;
+    }
+    let fd = os::open_read(name);
+    if fd < 0 {
+        os::fail(name);
+        return;
+    }
+    replay_log(fd, name, buf, out, &mut area, &mut answer);
+    libc::close(fd);
+}
+
+fn main() {
+    let mut buf = [0u8; 65280];
+    let mut out = [0u8; 12288];
+    let mut name = io::buffer();
+    let count = os::arg_count();
+    let mut i = 1;
+    while i < count {
+        let size = os::arg(i, &mut name);
+        if os::errno() == 0 {
+            replay_named(&name[..size], &mut buf, &mut out);
+        } else {
+            os::fail(b"argument");
+        }
+        i += 1;
+    }
+}

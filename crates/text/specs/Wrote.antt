@@ -1,0 +1,12 @@
+-- What it is to write a text at a place.
+-- Assumes nothing.
+use mathlib.Core.Path.{_≡_}
+use mathlib.Core.List.{List}
+use Prim.Native.Nat.{ℕ, _+_}
+use lib.ListN.{length}
+use Rattle.rules.specs.Bytes.{splice}
+
+-- The text was written over old at a place: new is what came of it, next the place after it. Every other byte stays.
+pub record Wrote (old : List ℕ) (at : ℕ) (text new : List ℕ) (next : ℕ) : Type 0 where
+  pub next-is : next ≡ at + length text
+  pub new-is : new ≡ splice at text old

@@ -1,0 +1,56 @@
+// Text written into a lent buffer at a place; each function answers the place after what it wrote.
+ghost use mathlib.Core.List.{_++_};
+ghost use Prim.Native.Nat.{_+_, _≤_};
+ghost use lib.ListN.{length};
+ghost use Rattle.rules.specs.Text.{ascii, decimal};
+ghost use Rattle.rules.specs.Replay.{phaseName};
+ghost use Rattle.text.specs.Wrote.{Wrote};
+use rules::Phase;
+
+pub fn put(out: &mut [u8], at: usize, text: &[u8]) -> usize
+    requires { ⌜ at + length (now text) ≤ length (now out) ⌝ }
+    ensures { λ r. ⌜ Wrote (now (out .entry)) at (now (text .entry)) (now (out .exit)) r ⌝ }
+{
+    base::copy_at(out, at, text);
+    at + text.len()
+}
+
+// A number in decimal, which takes at most 20 digits. Most numbers of a replay have one digit, so that one is written at once.
+pub fn put_decimal(out: &mut [u8], at: usize, n: u64) -> usize
+    requires { ⌜ at + 20 ≤ length (now out) ⌝ }
+    ensures { λ r. ⌜ r ≤ at + 20 ⌝ }
+    ensures { λ r. ⌜ Wrote (now (out .entry)) at (decimal n) (now (out .exit)) r ⌝ }
+{
+    if n < 10 {
+        out[at] = 48 + n as u8;
+        return at + 1;
+    }
+    let mut digits = [0u8; 20];
+    let k = io::decimal(n, &mut digits);
+    put(out, at, &digits[..k])
+}
+
+// A number in decimal, and the text after it.
+pub fn put_field(out: &mut [u8], at: usize, n: u64, after: &[u8]) -> usize
+    requires { ⌜ at + 20 + length (now after) ≤ length (now out) ⌝ }
+    ensures { λ r. ⌜ r ≤ at + 20 + length (now (after .entry)) ⌝ }
+    ensures { λ r. ⌜ Wrote (now (out .entry)) at (decimal n ++ now (after .entry)) (now (out .exit)) r ⌝ }
+{
+    let behind = put_decimal(out, at, n);
+    put(out, behind, after)
+}
+
+// A phase's name, which takes at most 9 letters.
+pub fn put_phase(out: &mut [u8], at: usize, phase: Phase) -> usize
+    requires { ⌜ at + 9 ≤ length (now out) ⌝ }
+    ensures { λ r. ⌜ r ≤ at + 9 ⌝ }
+    ensures { λ r. ⌜ Wrote (now (out .entry)) at (ascii (phaseName phase)) (now (out .exit)) r ⌝ }
+{
+    match phase {
+        Phase::Idle => put(out, at, b"idle"),
+        Phase::Receiving => put(out, at, b"receiving"),
+        Phase::Verifying => put(out, at, b"verifying"),
+        Phase::Staged => put(out, at, b"staged"),
+        Phase::Failed => put(out, at, b"failed"),
+    }
+}
