@@ -79,7 +79,16 @@ def proved(name, folder=None):
     return runner() + [str(path)]
 
 
-def by_clang(folder, name, sources):
+def library():
+    """The static library of crate abi, made anew where something under crates/ is newer."""
+    path = ROOT / "target" / "staticlib" / "libabi.a"
+    sources = [ROOT / "crates.txt", *(ROOT / "crates").rglob("*")]
+    if not path.is_file() or max(source.stat().st_mtime for source in sources) > path.stat().st_mtime:
+        finish(["rt", "staticlib", "abi"])
+    return path
+
+
+def by_clang(folder, name, sources, libraries=()):
     """Builds C for x86-64 by the kit's clang at -O2, and gives the program's path. The C library's declarations are those of
     tests/clang. Sources are named from tests/ on, each with its own options."""
     own, here, objects = kit(), ROOT / "tests", []
@@ -90,7 +99,7 @@ def by_clang(folder, name, sources):
         finish([*words, *options, "-c", str(here / source), "-o", objects[-1]])
     path = os.path.join(folder, name)
     finish([str(own / "bin" / "rattle-link"), "--target", "x86_64-unknown-linux-gnu", "--toolchain", str(own / "toolchain"),
-            "-o", path, *objects])
+            "-o", path, *objects, *map(str, libraries)])
     return path
 
 

@@ -1,4 +1,4 @@
-/* As much of the C library's header as tests/independent/replay.c uses: the kit's clang comes without header files. */
+/* As much of the C library's header as the programs under tests/ and examples/ use: the kit's clang comes without header files. */
 #ifndef STDIO_H
 #define STDIO_H
 
@@ -14,6 +14,7 @@ __SIZE_TYPE__ fread(void *to, __SIZE_TYPE__ size, __SIZE_TYPE__ count, FILE *fil
 __SIZE_TYPE__ fwrite(const void *from, __SIZE_TYPE__ size, __SIZE_TYPE__ count, FILE *file);
 int fputs(const char *text, FILE *file);
 int fprintf(FILE *file, const char *format, ...);
+int printf(const char *format, ...);
 
 int strcmp(const char *one, const char *other);
 

@@ -1,0 +1,114 @@
+-- What the verdict on an event makes of the number given and of the record's bytes; and that the bytes are 128 wherever no R number was given.
+-- Assumes nothing.
+use mathlib.Core.Path.{_≡_, refl, sym, _∙_, ap, subst}
+use mathlib.Core.Bool.{Bool, true, false}
+use mathlib.Core.List.{List, [], _∷_}
+use Prim.Native.Nat.{ℕ, _≤_}
+use native.Mathlib.Omega.{arith}
+use lib.Dec.{lit≤}
+use lib.IntN.{ℤ}
+use lib.ListN.{length}
+use Rattle.rules.specs.Tests.{if_then_else_, _=?_}
+use Rattle.rules.specs.Refusals.{verdict, eventChecks, statusLength}
+use Rattle.rules.specs.Table.{rowOf, servedCheck, lengthCheck}
+use Rattle.rules.specs.Module.{Result, callOf, checks, callChecks, outcome, happened, callResult}
+use Rattle.rules.specs.declared.Refusal.the-variants.{R, Status}
+use Rattle.rules.specs.declared.Verdict.{Verdict}
+use Rattle.rules.specs.declared.Verdict.the-variants.{Accepted, Refused}
+use Rattle.rules.specs.declared.Reply.{Reply}
+use Rattle.rules.specs.declared.Device.{Device}
+use Rattle.rules.proofs.NoR.{NoR, call-through, event-through}
+use Rattle.rules.proofs.Fitting.{answers}
+use Rattle.module.specs.Promise.{Promised}
+use Rattle.module.specs.declared.Outcome.{Outcome}
+use Rattle.store.specs.Store.{recordSize, encodeOf, decodeOf}
+use Rattle.store.proofs.Refused.{possible-whole}
+use Rattle.abi.specs.Abi.{toldBy, told, keptBy, kept, Called, Happened, Sized, Keepable}
+
+-- a verdict that is known settles the number and the bytes
+pub settled : (w : Verdict) (reply : Reply) (new : Device) (bytes : List ℕ) {number : ℤ} {bytes′ : List ℕ}
+    → reply .verdict ≡ w → number ≡ toldBy w (reply .length) → bytes′ ≡ keptBy w new bytes
+    → (number ≡ told reply) × (bytes′ ≡ keptBy (reply .verdict) new bytes)
+settled w reply new bytes e p q = (
+  p ∙ ap (λ (v : Verdict). toldBy v (reply .length)) (sym e),
+  q ∙ ap (λ (v : Verdict). keptBy v new bytes) (sym e),
+)
+
+-- a refusal by a status: status 11 has the new record in the bytes, any other leaves them
+pub counted : (status ext : ℕ) (new : Device) (bytes : List ℕ) {bytes′ : List ℕ} → (status =? 11) ≡ true → bytes′ ≡ encodeOf new
+    → bytes′ ≡ keptBy (Refused (Status status ext)) new bytes
+counted status ext new bytes e q = q ∙ ap (λ (t : Bool). if t then encodeOf new else bytes) (sym e)
+
+pub not-counted : (status ext : ℕ) (new : Device) (bytes : List ℕ) → (status =? 11) ≡ false → bytes ≡ keptBy (Refused (Status status ext)) new bytes
+not-counted status ext new bytes e = ap (λ (t : Bool). if t then encodeOf new else bytes) (sym e)
+
+-- what the reply's verdict says of the bytes, once it is known
+pub sized-by : (w : Verdict) (reply : Reply) (bytes : List ℕ) → reply .verdict ≡ w → Keepable reply bytes → Sized w bytes
+sized-by w reply bytes e k = subst (λ (v : Verdict). Sized v bytes) e (k .sized)
+
+-- an answer with a status is no longer than the function's
+status-short : (status n : ℕ) → n ≤ 44 → statusLength status n ≤ 64
+status-short status n h = go (status =? 1)
+  where
+    go : (unserved : Bool) → (if unserved then 4 else n) ≤ 64
+    go true = lit≤ tt
+    go false = omega arith
+
+-- a call's reply can be kept
+module _ (bytes area : List ℕ) (revision index : ℕ) (request answer : List ℕ) where
+  abbrev d : Device
+  d = decodeOf bytes
+
+  through : (v : Verdict) → verdict (callChecks d area revision index request answer) ≡ v → NoR v → length bytes ≡ recordSize
+  through v e n =
+      possible-whole bytes
+      (call-through d area answer (servedCheck revision index ∷ lengthCheck index request ∷ checks d (callOf (rowOf index .function) revision request)) v e n .1 .0 .sound)
+
+  replied : (v : Verdict) → verdict (callChecks d area revision index request answer) ≡ v
+      → Keepable (outcome v d area (callOf (rowOf index .function) revision request) (rowOf index .answer) answer .reply) bytes
+  replied Accepted e = let h = answers index .1 in record { sized = through Accepted e tt; short = omega arith }
+  replied (Refused (R number)) e = record { sized = tt; short = lit≤ tt }
+  replied (Refused (Status status ext)) e =
+      record { sized = through (Refused (Status status ext)) e tt; short = status-short status (rowOf index .answer) (answers index .1) }
+
+  pub call-keepable : {o : Outcome} {area′ answer′ : List ℕ} → Promised (callResult d area revision index request answer) o area′ answer′ → Keepable (o .reply) bytes
+  unfolding callResult
+  call-keepable p = subst (λ (r : Reply). Keepable r bytes) (sym (p .reply-is)) (replied _ refl)
+
+-- a tick's and a power cycle's too
+module _ (bytes area : List ℕ) (changed : Device) where
+  happening : (v : Verdict) → verdict (eventChecks (decodeOf bytes) area) ≡ v → Keepable (happened v changed (decodeOf bytes) area .reply) bytes
+  happening Accepted e =
+      record { sized = possible-whole bytes (event-through (decodeOf bytes) area [] Accepted e tt .0 .sound); short = lit≤ tt }
+  happening (Refused (R number)) e = record { sized = tt; short = lit≤ tt }
+  happening (Refused (Status status ext)) e =
+      record {
+        sized = possible-whole bytes (event-through (decodeOf bytes) area [] (Refused (Status status ext)) e tt .0 .sound);
+        short = lit≤ tt;
+      }
+
+  pub event-keepable : {o : Outcome} {area′ answer′ : List ℕ} → Promised (happened (verdict (eventChecks (decodeOf bytes) area)) changed (decodeOf bytes) area) o area′ answer′
+      → Keepable (o .reply) bytes
+  event-keepable p = subst (λ (r : Reply). Keepable r bytes) (sym (p .reply-is)) (happening _ refl)
+
+-- the record that was decoded is the one whose result is promised
+pub of-decoded : (f : Device → Result) {d e : Device} {o : Outcome} {area′ answer′ : List ℕ} → d ≡ e → Promised (f d) o area′ answer′ → Promised (f e) o area′ answer′
+of-decoded f {o = o} {area′ = area′} {answer′ = answer′} q p = subst (λ (x : Device). Promised (f x) o area′ answer′) q p
+
+-- the module's promise, kept in the bytes
+module _ (result : Result) (bytes : List ℕ) {o : Outcome} {number : ℤ} {bytes′ area′ answer′ : List ℕ}
+    (p : Promised result o area′ answer′) (h : (number ≡ told (o .reply)) × (bytes′ ≡ keptBy (o .reply .verdict) (o .device) bytes)) where
+  same-kept : keptBy (o .reply .verdict) (o .device) bytes ≡ kept result bytes
+  same-kept = λ i. keptBy (p .reply-is i .verdict) (p .device-is i) bytes
+
+  pub called : Called result bytes number bytes′ area′ answer′
+  called =
+      record {
+        number-is = h .0 ∙ ap told (p .reply-is);
+        record-is = h .1 ∙ same-kept;
+        area-is = p .area-is;
+        answer-is = p .answer-is;
+      }
+
+  pub occurred : Happened result bytes number bytes′
+  occurred = record { number-is = h .0 ∙ ap told (p .reply-is); record-is = h .1 ∙ same-kept }

@@ -1,0 +1,4 @@
+pub mod Numbers
+pub mod Kept
+pub mod Made
+pub mod Agree

@@ -1,0 +1,15 @@
+-- `abi::length` meets its contract. A length of at most 64 stays as it is (proofs/Numbers.antt).
+-- Assumes nothing.
+use Rattle.abi.proofs.Numbers.{as-length}
+use borrow.Author.Needs.{needs}
+use Rattle.abi.proofs.length.Statement.{statement}
+use Rattle.abi.proofs.length.Tie as tie
+
+cast-result : tie.Need-cast-result
+cast-result c = search needs
+
+returns : tie.Need-returns
+returns c = as-length (c .args .n) (c .pre)
+
+pub length-spec : {M : Type 1} → statement M
+length-spec = tie.close (tie.spec cast-result returns)

@@ -1,0 +1,37 @@
+-- `abi::module_power` meets its contract. The module's promise for the decoded record, kept in the bytes (proofs/Kept.antt).
+-- Assumes nothing.
+use Rattle.abi.proofs.Numbers.{passed-on}
+use Rattle.store.specs.Store.{decodeOf}
+use Rattle.rules.specs.declared.Device.{Device}
+use Rattle.rules.specs.Module.{powerResult}
+use Rattle.abi.proofs.Kept.{event-keepable, of-decoded, occurred}
+use borrow.Author.Needs.{needs}
+use Rattle.abi.proofs.module_power.Statement.{statement}
+use Rattle.abi.proofs.module_power.Tie as tie
+
+decode-requires : tie.Need-decode-requires
+decode-requires c κs = search needs
+
+power-requires : tie.Need-power-requires
+power-requires c κs = search needs
+
+keep-requires : tie.Need-keep-requires
+unfolding powerResult
+keep-requires c κs =
+    let a = c .before .before .before .before .before .before .args in
+    event-keepable (a .bytes .now) (a .area .now) _ (of-decoded (λ (d : Device). powerResult d (a .area .now)) (c .before .before .decode .ensures) (c .before .power .ensures))
+
+same-length : tie.Need-same-length
+same-length c = search needs
+
+returns : tie.Need-returns
+returns c =
+    let a = c .before .before .before .before .before .before .before .before .before .args in
+    let k = c .before .before .keep in
+    occurred (powerResult (decodeOf (a .bytes .now)) (a .area .now)) (a .bytes .now)
+    (of-decoded (λ (d : Device). powerResult d (a .area .now)) (c .before .before .before .before .before .decode .ensures) (c .before .before .before .before .power .ensures))
+    (passed-on (k .ok) (k .ensures .0), k .ensures .1)
+
+pub module-power-spec : {M : Type 1} → statement M
+module-power-spec =
+    tie.close (tie.spec decode-requires power-requires keep-requires same-length returns)

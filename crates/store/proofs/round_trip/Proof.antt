@@ -1,0 +1,27 @@
+-- `store::round_trip` meets its contract. What was encoded decodes to the same record, for each field fits its bytes (proofs/Back.antt).
+-- Assumes nothing.
+use mathlib.Core.Path.{_∙_, ap}
+use Rattle.store.specs.Store.{decodeOf}
+use Rattle.store.proofs.Back.{back}
+use Rattle.store.proofs.Range.{in-range}
+use borrow.Author.Needs.{needs}
+use Rattle.store.proofs.round_trip.Statement.{statement}
+use Rattle.store.proofs.round_trip.Tie as tie
+
+encode-requires : tie.Need-encode-requires
+encode-requires c κs = search needs
+
+slice-aggregate-decode : tie.Need-slice-aggregate-decode
+slice-aggregate-decode c = search needs
+
+decode-requires : tie.Need-decode-requires
+decode-requires c κs = search needs
+
+returns : tie.Need-returns
+returns c =
+    let k = c .before .before .before in
+    c .decode .ensures ∙ ap decodeOf (c .before .before .encode .ensures) ∙ back (k .args .d) (in-range (k .args .d) _ (k .good .0))
+
+pub round-trip-spec : {M : Type 1} → statement M
+round-trip-spec =
+    tie.close (tie.spec encode-requires slice-aggregate-decode decode-requires returns)

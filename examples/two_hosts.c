@@ -1,0 +1,156 @@
+/* Two hosts, one module: the bench updates the module's firmware while a laptop tries to do the same, and is refused.
+ * examples/build says how to build it; examples/two_hosts.expected is what it prints. */
+#include <stdio.h>
+#include <string.h>
+
+#include "module.h"
+
+enum { IMAGE_RECORDS = 10, IMAGE_RECORD = 128, IMAGE_SIZE = IMAGE_RECORDS * IMAGE_RECORD, VERSION = 7 };
+
+/* The module, in our own memory: record and area. The answer buffer is lent to each call. */
+static uint8_t record[MODULE_RECORD_SIZE];
+static uint8_t area[MODULE_AREA_SIZE];
+static uint8_t answer[MODULE_ANSWER_LEAST];
+
+static const uint8_t nothing[1]; /* an empty request points here */
+
+static void put(uint8_t *at, int width, uint64_t number)
+{
+    for (int i = 0; i < width; i++)
+        at[i] = (uint8_t)(number >> (8 * i));
+}
+
+static uint64_t get(const uint8_t *at, int width)
+{
+    uint64_t number = 0;
+
+    for (int i = width; i > 0; i--)
+        number = number << 8 | at[i - 1];
+    return number;
+}
+
+/* One call, with a line that says who called what and what came of it. 1 where the call was accepted. */
+static int call(const char *host, const char *name, uint64_t function, const uint8_t *request, size_t length)
+{
+    int32_t given = module_call(record, sizeof record, area, sizeof area, MODULE_REVISION, function, request, length,
+                                answer, sizeof answer);
+
+    printf("%-7s %-12s ", host, name);
+    if (given < 0) {
+        printf("gives R%d: nothing was written\n", (int)-given);
+        return 0;
+    }
+    unsigned status = (unsigned)get(answer, 2), extended = (unsigned)get(answer + 2, 2);
+    if (status == 0)
+        printf("accepted\n");
+    else
+        printf("refused, status %u, extended %u\n", status, extended);
+    return status == 0;
+}
+
+/* A request of Send: context, offset, length, then the piece. */
+static int send(const char *host, uint32_t context, uint32_t offset, const uint8_t *piece, uint32_t length)
+{
+    uint8_t request[MODULE_SEND_HEAD + MODULE_PIECE_MOST];
+
+    put(request, 4, context);
+    put(request + 4, 4, offset);
+    put(request + 8, 4, length);
+    memcpy(request + MODULE_SEND_HEAD, piece, length);
+    return call(host, "Send", MODULE_SEND, request, MODULE_SEND_HEAD + length);
+}
+
+static int start(const char *host, uint32_t *context)
+{
+    int accepted = call(host, "Start", MODULE_START, nothing, 0);
+
+    if (accepted)
+        *context = (uint32_t)get(answer + 4, 4);
+    return accepted;
+}
+
+static int finish(const char *host, uint32_t context)
+{
+    uint8_t request[8] = {0};
+
+    put(request + 4, 4, context);
+    return call(host, "Finish", MODULE_FINISH, request, sizeof request);
+}
+
+static int query(const char *host, uint32_t context)
+{
+    uint8_t request[4];
+
+    put(request, 4, context);
+    return call(host, "Query", MODULE_QUERY, request, sizeof request);
+}
+
+static void show_versions(void)
+{
+    if (call("bench", "Get FW Info", MODULE_GET_FW_INFO, nothing, 0))
+        printf("        running version %u, staged version %u\n", (unsigned)get(answer + 28, 8), (unsigned)get(answer + 36, 8));
+}
+
+/* An image: records of 128 bytes, each with its number, their count, the version, a payload and the sum of its other words. */
+static void make_image(uint8_t image[IMAGE_SIZE])
+{
+    memset(image, 0x5A, IMAGE_SIZE);
+    for (int i = 0; i < IMAGE_RECORDS; i++) {
+        uint8_t *at = image + i * IMAGE_RECORD;
+        uint32_t sum = 0;
+
+        put(at, 2, (uint64_t)i);
+        put(at + 2, 2, IMAGE_RECORDS);
+        put(at + 4, 8, VERSION);
+        for (int word = 0; word < IMAGE_RECORD - 4; word += 4)
+            sum += (uint32_t)get(at + word, 4);
+        put(at + IMAGE_RECORD - 4, 4, sum);
+    }
+}
+
+/* The bench sends the whole image; in between the laptop tries a piece of its own. */
+static void send_image(uint32_t context, const uint8_t *image)
+{
+    for (uint32_t offset = 0; offset < IMAGE_SIZE; offset += MODULE_PIECE_MOST) {
+        uint32_t left = IMAGE_SIZE - offset;
+
+        send("bench", context, offset, image + offset, left < MODULE_PIECE_MOST ? left : MODULE_PIECE_MOST);
+        if (offset == 0)
+            send("laptop", context + 1, 0, image, MODULE_PIECE_MOST);
+    }
+}
+
+int main(void)
+{
+    uint8_t image[IMAGE_SIZE];
+    uint32_t context = 0, other = 0;
+
+    make_image(image);
+    if (module_fresh(record, sizeof record) != 0)
+        return 1;
+    show_versions();
+
+    if (!start("bench", &context))
+        return 1;
+    printf("        context %u\n", (unsigned)context);
+    start("laptop", &other);
+    send_image(context, image);
+    finish("bench", context);
+    start("laptop", &other);
+
+    query("bench", context);
+    for (int tick = 0; tick < 8; tick++)
+        if (module_tick(record, sizeof record, area, sizeof area) != 0)
+            return 1;
+    printf("        8 ticks\n");
+    if (!query("bench", context))
+        return 1;
+    printf("        staged version %u\n", (unsigned)get(answer + 4, 8));
+    start("laptop", &other);
+
+    if (module_power(record, sizeof record, area, sizeof area) != 0)
+        return 1;
+    printf("        power cycle\n");
+    show_versions();
+    return 0;
+}

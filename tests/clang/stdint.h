@@ -1,0 +1,11 @@
+/* As much of the C library's header as the module's header and the programs under tests/ use. */
+#ifndef STDINT_H
+#define STDINT_H
+
+typedef __UINT8_TYPE__ uint8_t;
+typedef __UINT16_TYPE__ uint16_t;
+typedef __UINT32_TYPE__ uint32_t;
+typedef __UINT64_TYPE__ uint64_t;
+typedef __INT32_TYPE__ int32_t;
+
+#endif

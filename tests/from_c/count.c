@@ -1,0 +1,109 @@
+/* Calls to count the instructions of.
+ *
+ *     count WHAT SIDE TIMES
+ *
+ * WHAT is send (a Send of 512 bytes), info (a Get FW Info) or tick (the tick that verifies an image of 16,384 bytes); SIDE is
+ * library, independent, or none, which makes no call: what is left is the work around the calls. */
+#include <stdlib.h>
+#include <string.h>
+
+#include "../../include/module.h"
+#include "../independent/record.h"
+
+static uint8_t before[MODULE_RECORD_SIZE], record[MODULE_RECORD_SIZE], area[MODULE_AREA_SIZE];
+static uint8_t request[MODULE_SEND_HEAD + MODULE_PIECE_MOST], answer[MODULE_ANSWER_LEAST];
+
+static void make_image(void)
+{
+    for (uint32_t i = 0; i < 128; i++) {
+        uint8_t *at = area + 128 * i;
+        uint32_t sum = 0;
+
+        memset(at, (int)i, 128);
+        put16(at, (uint16_t)i);
+        put16(at + 2, 128);
+        put64(at + 4, 7);
+        for (int word = 0; word < 124; word += 4)
+            sum += get32(at + word);
+        put32(at + 124, sum);
+    }
+}
+
+static void prepare(const char *what)
+{
+    struct device device = {0};
+
+    device.running = 1;
+    device.contexts = 1;
+    device.phase = RECEIVING;
+    if (strcmp(what, "tick") == 0) {
+        make_image();
+        device.phase = VERIFYING;
+        device.received = MODULE_AREA_SIZE;
+        device.ticks = 1;
+    }
+    record_encode(&device, before);
+    memset(request, 'x', sizeof request);
+    put32(request, 1);
+    put32(request + 4, 0);
+    put32(request + 8, MODULE_PIECE_MOST);
+}
+
+/* Each call as it is made, its arguments included. */
+static int32_t library_send(void)
+{
+    return module_call(record, sizeof record, area, sizeof area, 2, MODULE_SEND, request, sizeof request, answer, sizeof answer);
+}
+
+static int32_t independent_send(void)
+{
+    return independent_call(record, sizeof record, area, sizeof area, 2, MODULE_SEND, request, sizeof request, answer,
+                            sizeof answer);
+}
+
+static int32_t library_info(void)
+{
+    return module_call(record, sizeof record, area, sizeof area, 2, MODULE_GET_FW_INFO, request, 0, answer, sizeof answer);
+}
+
+static int32_t independent_info(void)
+{
+    return independent_call(record, sizeof record, area, sizeof area, 2, MODULE_GET_FW_INFO, request, 0, answer, sizeof answer);
+}
+
+static int32_t library_tick(void) { return module_tick(record, sizeof record, area, sizeof area); }
+static int32_t independent_ticked(void) { return independent_tick(record, sizeof record, area, sizeof area); }
+static int32_t none(void) { return 0; }
+
+static const struct work {
+    const char *what, *side;
+    int32_t (*make)(void);
+} works[] = {
+    {"send", "library", library_send}, {"send", "independent", independent_send},  {"send", "none", none},
+    {"info", "library", library_info}, {"info", "independent", independent_info},  {"info", "none", none},
+    {"tick", "library", library_tick}, {"tick", "independent", independent_ticked}, {"tick", "none", none},
+};
+
+static bool accepted(const struct work *work)
+{
+    memcpy(record, before, sizeof record);
+    return work->make() >= 0 && get16(answer) == 0;
+}
+
+int main(int words, char **word)
+{
+    const struct work *work = works;
+
+    if (words != 4)
+        return 2;
+    while (strcmp(work->what, word[1]) != 0 || strcmp(work->side, word[2]) != 0)
+        if (++work == works + sizeof works / sizeof *works)
+            return 2;
+    prepare(word[1]);
+    for (uint64_t times = strtoull(word[3], 0, 10); times > 0; times--)
+        if (!accepted(work))
+            return 1;
+    if (strcmp(word[1], "tick") == 0 && strcmp(word[2], "none") != 0 && record[0] != STAGED)
+        return 1;
+    return 0;
+}

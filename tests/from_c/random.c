@@ -1,0 +1,448 @@
+/* Random calls from C: the proved library and the independent model, side by side in one process.
+ *
+ *     random SEED COUNT
+ *
+ * Each turn takes a record, an area, a request and an answer buffer, gives both sides their own copies of the same bytes, and
+ * compares what they answer and every byte afterwards, guards included. The first difference is printed, and the exit
+ * status is then 1. */
+#include <stdio.h>
+#include <stdlib.h>
+#include <string.h>
+
+#include "../../include/module.h"
+#include "../independent/record.h"
+
+/* ---- Random numbers ---- */
+
+static uint64_t state;
+
+static uint64_t next(void)
+{
+    uint64_t z = state += 0x9E3779B97F4A7C15u;
+
+    z = (z ^ z >> 30) * 0xBF58476D1CE4E5B9u;
+    z = (z ^ z >> 27) * 0x94D049BB133111EBu;
+    return z ^ z >> 31;
+}
+
+static uint64_t below(uint64_t most) { return next() % most; }
+static bool percent(unsigned chance) { return below(100) < chance; }
+
+static void fill(uint8_t *at, size_t length)
+{
+    for (size_t i = 0; i < length; i++)
+        at[i] = (uint8_t)next();
+}
+
+/* ---- Buffers with guards ---- */
+
+enum { GUARD = 64, ROOM = MODULE_AREA_SIZE + 64, SIDES = 2 };
+
+/* One buffer as both sides have it: the same bytes, guards before and behind, and a place that need not be aligned. */
+struct buffer {
+    const char *name;
+    uint8_t was[GUARD + ROOM + GUARD];
+    uint8_t side[SIDES][GUARD + ROOM + GUARD];
+    size_t at, length;
+};
+
+static struct buffer record = {.name = "record"}, area = {.name = "area"}, request = {.name = "request"},
+                     answer = {.name = "answer"};
+static struct buffer *const buffers[] = {&record, &area, &request, &answer};
+
+static uint8_t *mine(struct buffer *buffer) { return buffer->was + buffer->at; }
+static uint8_t *lent(struct buffer *buffer, int side) { return buffer->side[side] + buffer->at; }
+static size_t whole(const struct buffer *buffer) { return buffer->at + buffer->length + GUARD; }
+
+/* A buffer of a length, all its bytes and its guards random. */
+static void renew(struct buffer *buffer, size_t length)
+{
+    buffer->at = GUARD - below(16);
+    buffer->length = length;
+    fill(buffer->was, whole(buffer));
+}
+
+static void lend(struct buffer *buffer)
+{
+    for (int side = 0; side < SIDES; side++)
+        memcpy(buffer->side[side], buffer->was, whole(buffer));
+}
+
+/* ---- Records ---- */
+
+static void put(uint8_t *at, int width, uint64_t number)
+{
+    for (int i = 0; i < width; i++)
+        at[i] = (uint8_t)(number >> 8 * i);
+}
+
+static bool good_image;
+
+/* A good image of some records at the front of the area, now and then with one byte wrong. */
+static uint32_t make_image(void)
+{
+    uint32_t count = percent(30) ? 128 : 1 + (uint32_t)below(128);
+    uint64_t version = percent(5) ? 0 : next();
+
+    for (uint32_t i = 0; i < count; i++) {
+        uint8_t *at = mine(&area) + 128 * i;
+        uint32_t sum = 0;
+
+        put(at, 2, i);
+        put(at + 2, 2, count);
+        put(at + 4, 8, version);
+        for (int word = 0; word < 124; word += 4)
+            sum += get32(at + word);
+        put(at + 124, 4, sum);
+    }
+    if (percent(25))
+        mine(&area)[below(128 * count)] ^= (uint8_t)(1 << below(8));
+    good_image = true;
+    return 128 * count;
+}
+
+/* A possible record. */
+static void possible_record(void)
+{
+    struct device device = {0};
+
+    device.phase = (uint8_t)below(5);
+    device.contexts = percent(10) ? 4294967295u - (uint32_t)below(2) : 1 + (uint32_t)below(4);
+    if (device.phase == IDLE && percent(30))
+        device.contexts = 0;
+    if (device.phase != IDLE)
+        device.received = percent(30) ? 0 : percent(30) ? 16384 - (uint32_t)below(600) : (uint32_t)below(16385);
+    if (device.phase == VERIFYING)
+        device.ticks = percent(50) ? 1 : (uint8_t)(1 + below(8));
+    if (device.phase == VERIFYING && area.length == MODULE_AREA_SIZE && percent(20))
+        device.received = make_image();
+    device.running = next() >> below(64);
+    if (device.phase == STAGED)
+        device.staged = percent(10) ? 0 : next() >> below(64);
+    device.enable = (uint16_t)below(8);
+    device.spare = (uint8_t)below(101);
+    device.media = (uint16_t)next();
+    device.controller = (uint16_t)next();
+    device.enabled = percent(70);
+    device.locked = device.enabled && percent(40);
+    device.frozen = percent(15);
+    device.attempts = percent(60) ? (uint8_t)below(3) : (uint8_t)(8 + below(3));
+    if (device.enabled)
+        fill(device.passphrase, sizeof device.passphrase);
+    renew(&record, RECORD_BYTES);
+    record_encode(&device, mine(&record));
+}
+
+/* A record with something wrong, or nearly. */
+static void spoil_record(void)
+{
+    uint8_t *at = mine(&record);
+
+    switch (below(5)) {
+    case 0: at[below(record.length)] ^= (uint8_t)(1 << below(8)); break;
+    case 1: at[below(6)] = (uint8_t)below(12); break;
+    case 2: at[below(38)] = (uint8_t)next(); break;
+    case 3: at[percent(50) ? 33 : percent(50) ? 38 + below(26) : 96 + below(32)] = (uint8_t)next(); break;
+    case 4: put(at + 12, 4, 16384 + below(3)); break;
+    }
+}
+
+static size_t odd_length(size_t right)
+{
+    switch (below(5)) {
+    case 0: return 0;
+    case 1: return right - 1;
+    case 2: return right + 1;
+    case 3: return below(right + 64);
+    default: return below(300);
+    }
+}
+
+static bool goes_on;
+
+static void choose_record(void)
+{
+    unsigned kind = (unsigned)below(100);
+
+    if (kind < 65 && goes_on)
+        return;
+    if (kind < 95)
+        possible_record();
+    else if (kind < 97)
+        renew(&record, RECORD_BYTES);
+    else
+        renew(&record, below(300));
+    if (kind >= 87 && kind < 95)
+        spoil_record();
+    if (kind == 94)
+        record.length = odd_length(RECORD_BYTES);
+}
+
+static void choose_area(void)
+{
+    if (area.length == MODULE_AREA_SIZE && !percent(1))
+        return;
+    renew(&area, percent(80) ? MODULE_AREA_SIZE : odd_length(MODULE_AREA_SIZE));
+}
+
+/* ---- Requests ---- */
+
+static uint32_t context(void)
+{
+    uint32_t current = record.length == RECORD_BYTES ? get32(mine(&record) + 8) : 0;
+
+    return percent(90) ? current : percent(50) ? current + (uint32_t)below(3) - 1 : (uint32_t)next();
+}
+
+static void send_request(void)
+{
+    uint32_t received = record.length == RECORD_BYTES ? get32(mine(&record) + 12) : 0;
+    uint32_t length = percent(60) ? 512 : percent(80) ? (uint32_t)below(514) : (uint32_t)(next() >> below(33));
+    uint32_t offset = percent(85) ? received : percent(50) ? received + (uint32_t)below(5) - 2 : (uint32_t)(next() >> below(33));
+
+    if (percent(20) && received <= MODULE_AREA_SIZE)
+        length = MODULE_AREA_SIZE - received + (uint32_t)below(3) - 1;
+    size_t piece = length <= 600 ? length : below(600);
+    if (percent(5))
+        piece = below(600);
+    renew(&request, MODULE_SEND_HEAD + piece);
+    put(mine(&request), 4, context());
+    put(mine(&request) + 4, 4, offset);
+    put(mine(&request) + 8, 4, length);
+}
+
+/* The record's passphrase, or nearly. */
+static void passphrase(uint8_t *at)
+{
+    if (record.length == RECORD_BYTES)
+        memcpy(at, mine(&record) + 64, MODULE_PASSPHRASE_SIZE);
+    if (percent(35))
+        at[below(MODULE_PASSPHRASE_SIZE)] ^= (uint8_t)(1 << below(8));
+}
+
+static void choose_request(uint64_t function)
+{
+    if (percent(6)) {
+        renew(&request, percent(50) ? below(70) : below(600));
+        return;
+    }
+    switch (function) {
+    case MODULE_SEND: send_request(); break;
+    case MODULE_FINISH:
+        renew(&request, 8);
+        mine(&request)[0] = percent(75) ? 0 : percent(60) ? 1 : (uint8_t)next();
+        put(mine(&request) + 4, 4, context());
+        break;
+    case MODULE_QUERY:
+        renew(&request, 4);
+        put(mine(&request), 4, context());
+        break;
+    case MODULE_SET_THRESHOLD:
+        renew(&request, 7);
+        mine(&request)[2] = (uint8_t)(percent(80) ? below(101) : 100 + below(156));
+        break;
+    case MODULE_SET_PASSPHRASE:
+        renew(&request, 2 * MODULE_PASSPHRASE_SIZE);
+        passphrase(mine(&request));
+        break;
+    case MODULE_DISABLE:
+    case MODULE_UNLOCK:
+        renew(&request, MODULE_PASSPHRASE_SIZE);
+        passphrase(mine(&request));
+        break;
+    default: renew(&request, 0);
+    }
+}
+
+/* ---- One turn ---- */
+
+enum event { FRESH, CALL, TICK, POWER };
+
+struct turn {
+    enum event event;
+    uint64_t revision, function;
+    int32_t given[SIDES];
+};
+
+static uint64_t choose_function(void)
+{
+    static const uint8_t served[] = {0, 2, 12, 13, 14, 14, 14, 14, 15, 15, 16, 16, 17, 19, 20, 20, 21, 22, 23};
+    uint64_t function = served[below(sizeof served)];
+
+    if (percent(94))
+        return function;
+    return percent(50) ? below(40) : percent(50) ? function + ((uint64_t)1 << (8 + below(56))) : next();
+}
+
+static uint64_t choose_revision(void)
+{
+    if (percent(92))
+        return 2;
+    return percent(60) ? 1 : percent(50) ? below(5) : percent(50) ? 2 + ((uint64_t)1 << (8 + below(56))) : next();
+}
+
+static struct turn choose(void)
+{
+    unsigned kind = (unsigned)below(100);
+    struct turn turn = {.event = kind < 1 ? FRESH : kind < 80 ? CALL : kind < 96 ? TICK : POWER};
+
+    good_image = false;
+    choose_area();
+    choose_record();
+    if (good_image)
+        turn.event = TICK;
+    turn.revision = choose_revision();
+    turn.function = choose_function();
+    choose_request(turn.function);
+    renew(&answer, percent(92) ? 64 + below(40) : below(66));
+    return turn;
+}
+
+static void make(struct turn *turn)
+{
+    uint8_t *r = lent(&record, 0), *a = lent(&area, 0), *q = lent(&request, 0), *b = lent(&answer, 0);
+
+    switch (turn->event) {
+    case FRESH: turn->given[0] = module_fresh(r, record.length); break;
+    case TICK: turn->given[0] = module_tick(r, record.length, a, area.length); break;
+    case POWER: turn->given[0] = module_power(r, record.length, a, area.length); break;
+    case CALL:
+        turn->given[0] = module_call(r, record.length, a, area.length, turn->revision, turn->function, q, request.length, b,
+                                     answer.length);
+    }
+    r = lent(&record, 1), a = lent(&area, 1), q = lent(&request, 1), b = lent(&answer, 1);
+    switch (turn->event) {
+    case FRESH: turn->given[1] = independent_fresh(r, record.length); break;
+    case TICK: turn->given[1] = independent_tick(r, record.length, a, area.length); break;
+    case POWER: turn->given[1] = independent_power(r, record.length, a, area.length); break;
+    case CALL:
+        turn->given[1] = independent_call(r, record.length, a, area.length, turn->revision, turn->function, q, request.length,
+                                          b, answer.length);
+    }
+}
+
+/* ---- Comparing ---- */
+
+static bool untouched(const struct buffer *buffer, int side)
+{
+    return memcmp(buffer->side[side], buffer->was, whole(buffer)) == 0;
+}
+
+static bool guarded(const struct buffer *buffer, int side)
+{
+    size_t behind = buffer->at + buffer->length;
+
+    return memcmp(buffer->side[side], buffer->was, buffer->at) == 0
+        && memcmp(buffer->side[side] + behind, buffer->was + behind, GUARD) == 0;
+}
+
+/* What is wrong with the turn, or NULL. */
+static const char *fault(const struct turn *turn, const struct buffer **where)
+{
+    *where = &record;
+    if (turn->given[0] != turn->given[1])
+        return "the numbers given differ";
+    for (int i = 0; i < 4; i++) {
+        *where = buffers[i];
+        if (!guarded(*where, 0) || !guarded(*where, 1))
+            return "a guard was touched";
+        if (memcmp((*where)->side[0], (*where)->side[1], whole(*where)) != 0)
+            return "the bytes differ";
+        if (turn->given[0] < 0 && !untouched(*where, 0))
+            return "an R number wrote something";
+    }
+    *where = &request;
+    return untouched(&request, 0) ? NULL : "the request was written";
+}
+
+static void show(const struct turn *turn, uint64_t number, const char *what, const struct buffer *where)
+{
+    static const char *const events[] = {"fresh", "call", "tick", "power"};
+    size_t i = 0;
+
+    printf("turn %llu: %s (%s)\n", (unsigned long long)number, what, where->name);
+    printf("%s revision %llu function %llu: library %d, independent %d\n", events[turn->event],
+           (unsigned long long)turn->revision, (unsigned long long)turn->function, (int)turn->given[0], (int)turn->given[1]);
+    while (i + 1 < whole(where) && where->side[0][i] == where->side[1][i])
+        i++;
+    printf("first byte that differs: %d: library %u, independent %u, before %u\n", (int)i - (int)where->at, where->side[0][i],
+           where->side[1][i], where->was[i]);
+    for (int b = 0; b < 4; b++) {
+        printf("%s, %u bytes:", buffers[b]->name, (unsigned)buffers[b]->length);
+        for (i = 0; i < buffers[b]->length && i < 128; i++)
+            printf(" %02x", buffers[b]->was[buffers[b]->at + i]);
+        printf("\n");
+    }
+}
+
+/* ---- What came up ---- */
+
+static uint64_t tally[4][16], stagings, failures;
+
+/* Answers by kind: 1 to 3 the R numbers, 4 on the statuses. */
+static void count(const struct turn *turn)
+{
+    const uint8_t *after = lent(&record, 0);
+    unsigned kind = turn->given[0] < 0 ? (unsigned)-turn->given[0] : 0;
+
+    if (kind == 0 && turn->event == CALL)
+        kind = turn->function == 0 ? 4 : 4 + get16(lent(&answer, 0));
+    tally[turn->event][kind & 15]++;
+    if (turn->event == TICK && kind == 0 && mine(&record)[0] == VERIFYING) {
+        stagings += after[0] == STAGED;
+        failures += after[0] == FAILED;
+    }
+}
+
+static void report(uint64_t turns)
+{
+    static const char *const names[] = {"fresh", "calls", "ticks", "power cycles"};
+
+    printf("%llu turns agree, no guard touched\n", (unsigned long long)turns);
+    for (int event = FRESH; event <= POWER; event++) {
+        uint64_t *row = tally[event];
+        printf("%s: R1 %llu, R2 %llu, R3 %llu", names[event], (unsigned long long)row[1], (unsigned long long)row[2],
+               (unsigned long long)row[3]);
+        if (event != CALL)
+            printf(", done %llu\n", (unsigned long long)row[0]);
+        for (int status = 0; event == CALL && status < 12; status++)
+            if (row[4 + status])
+                printf(", status %d %llu", status, (unsigned long long)row[4 + status]);
+        if (event == CALL)
+            printf("\n");
+    }
+    printf("verified: %llu staged, %llu failed\n", (unsigned long long)stagings, (unsigned long long)failures);
+}
+
+/* The next turn may go on from this one, unless the record was refused. */
+static void go_on(const struct turn *turn)
+{
+    goes_on = turn->given[0] != R3;
+    memcpy(record.was, record.side[0], whole(&record));
+    memcpy(area.was, area.side[0], whole(&area));
+}
+
+int main(int words, char **word)
+{
+    const struct buffer *where;
+
+    if (words != 3)
+        return 2;
+    state = strtoull(word[1], NULL, 10);
+    uint64_t turns = strtoull(word[2], NULL, 10);
+    for (uint64_t i = 0; i < turns; i++) {
+        struct turn turn = choose();
+        for (int b = 0; b < 4; b++)
+            lend(buffers[b]);
+        make(&turn);
+        const char *what = fault(&turn, &where);
+        if (what) {
+            show(&turn, i, what, where);
+            return 1;
+        }
+        count(&turn);
+        go_on(&turn);
+    }
+    report(turns);
+    return 0;
+}
