@@ -197,7 +197,7 @@ static uint32_t context(void)
 static void send_request(void)
 {
     uint32_t received = record.length == RECORD_BYTES ? get32(mine(&record) + 12) : 0;
-    uint32_t length = percent(60) ? 512 : percent(80) ? (uint32_t)below(514) : (uint32_t)(next() >> below(33));
+    uint32_t length = percent(60) ? 512 : percent(10) ? 513 : percent(80) ? (uint32_t)below(514) : (uint32_t)(next() >> below(33));
     uint32_t offset = percent(85) ? received : percent(50) ? received + (uint32_t)below(5) - 2 : (uint32_t)(next() >> below(33));
 
     if (percent(20) && received <= MODULE_AREA_SIZE)

@@ -11,19 +11,23 @@ use lib.ListN.{length, getD, take, drop, set, drop-of-length-le}
 use lib.Seq.{drop-cons, take-suc, append-snoc, set-at, length-take-le, take-length}
 use Rattle.rules.specs.Bytes.{zeros?, same?, splice}
 
--- a scan for a byte that is not 0, at place i: on, stopped, at the end
-module _ (s : List ℕ) (i : ℕ) (whole : zeros? (drop i s) ≡ zeros? s) where
-  pub zeros-on : i < length s → getD s i 0 ≡ 0 → zeros? (drop (i + 1) s) ≡ zeros? s
-  unfolding zeros?
-  zeros-on h e = sym (rw (add-one, drop-cons s i 0 h, eq-eqb (getD s i 0) 0 e) refl) ∙ whole
+and-assoc : (a b c : Bool) → ((a && b) && c) ≡ (a && (b && c))
+and-assoc true b c = refl
+and-assoc false b c = refl
 
-  pub zeros-stop : i < length s → (getD s i 0 ≡ 0 → ⊥) → false ≡ zeros? s
-  unfolding zeros?
-  zeros-stop h n = sym (rw (drop-cons s i 0 h, ne-eqb (getD s i 0) 0 n) refl) ∙ whole
+and-true : (a : Bool) → (a && true) ≡ a
+and-true true = refl
+and-true false = refl
 
-  pub zeros-end : length s ≤ i → true ≡ zeros? s
+-- a test of every byte, at place i, with what it has come to so far: on, at the end
+module _ (s : List ℕ) (i : ℕ) (so-far : Bool) (whole : (so-far && zeros? (drop i s)) ≡ zeros? s) where
+  pub zeros-on : i < length s → ((so-far && eqb (getD s i 0) 0) && zeros? (drop (i + 1) s)) ≡ zeros? s
   unfolding zeros?
-  zeros-end h = sym (rw (drop-of-length-le s h) refl) ∙ whole
+  zeros-on h = and-assoc so-far (eqb (getD s i 0) 0) (zeros? (drop (i + 1) s)) ∙ sym (rw (add-one, drop-cons s i 0 h) refl) ∙ whole
+
+  pub zeros-end : length s ≤ i → so-far ≡ zeros? s
+  unfolding zeros?
+  zeros-end h = sym (and-true so-far) ∙ sym (rw (drop-of-length-le s h) refl) ∙ whole
 
 -- a scan for a place at which two lists differ
 module _ (a b : List ℕ) (i : ℕ) (whole : same? (drop i a) (drop i b) ≡ same? a b) where

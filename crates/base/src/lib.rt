@@ -4,18 +4,17 @@ ghost use Rattle.rules.specs.Bytes.{zeros?, same?, le, ofLe, splice, numberAt};
 ghost use Prim.Native.Nat.{_≤_, _+_};
 ghost use lib.ListN.{length};
 
-// All bytes are zero.
+// All bytes are zero. No byte ends the loop early, so that many are tested at once.
 pub fn all_zero(s: &[u8]) -> bool
     ensures { λ r. ⌜ r ≡ zeros? (now (s .entry)) ⌝ }
 {
+    let mut zero = true;
     let mut i = 0;
     while i < s.len() {
-        if s[i] != 0 {
-            return false;
-        }
+        zero = zero & (s[i] == 0);
         i += 1;
     }
-    true
+    zero
 }
 
 // The two slices hold the same bytes.

@@ -1,7 +1,7 @@
 -- What was decoded encodes to the same bytes: a record's bytes are the only ones that say it.
 -- Assumes nothing.
 use mathlib.Core.Path.{_≡_, refl, sym, _∙_, ap}
-use mathlib.Core.Bool.{Bool, true, false, _&&_, false≢true}
+use mathlib.Core.Bool.{true}
 use mathlib.Core.List.{List, [], _∷_, _++_}
 use Prim.Native.Nat.{ℕ, zero, suc, _≤_, _<_, _+_, _*_, _/_, _%_}
 use native.Mathlib.Omega.{arith}
@@ -9,12 +9,14 @@ use lib.Dec.{eqb}
 use lib.ListN.{length, take, drop, length-drop, take-append-drop}
 use lib.Seq.{take-add, drop-drop, length-take-le}
 use borrow.Author.Tests.{eqb-true, leb-true}
-use Rattle.rules.specs.Tests.{if_then_else_, _≤?_, _=?_}
-use Rattle.rules.specs.Bytes.{le, ofLe, numberAt, zeros, zeros?}
+use Rattle.rules.specs.Tests.{_=?_}
+use Rattle.rules.specs.Bytes.{le, ofLe, numberAt, zeros, zeros?, splice}
 use Rattle.rules.specs.Record.{phaseNumber}
+use Rattle.rules.specs.Refusals.{oneAttemptMore}
+use Rattle.rules.specs.declared.Device.{Device}
 use Rattle.rules.proofs.Choice.{and-true}
 use Rattle.base.proofs.Le.{Bytes, bytes-drop, bytes-take}
-use Rattle.store.specs.Store.{recordSize, flag, encodeOf, phaseOf, record?, recordOf, decodeOf}
+use Rattle.store.specs.Store.{flag, encodeOf, phaseOf, record?, recordOf, decodeOf}
 
 -- what a list's number is written as is the list
 le-ofLe : (l : List ℕ) → Bytes l → le (length l) (ofLe l) ≡ l
@@ -142,3 +144,12 @@ module _ (s : List ℕ) (bytes : Bytes s) (f : Fine s) where
 pub again : (s : List ℕ) → Bytes s → record? s ≡ true → encodeOf (decodeOf s) ≡ s
 unfolding decodeOf
 again s bytes e = rw e (all-joined s bytes (fine s e))
+
+-- one attempt more is one byte's change, of the record and so of its bytes
+counted : (d : Device) → encodeOf (oneAttemptMore d) ≡ splice 4 (le 1 (d .security .attempts + 1)) (encodeOf d)
+unfolding encodeOf
+counted d = refl
+
+pub one-byte : (s : List ℕ) → Bytes s → record? s ≡ true
+    → encodeOf (oneAttemptMore (decodeOf s)) ≡ splice 4 (le 1 (decodeOf s .security .attempts + 1)) s
+one-byte s bytes e = counted (decodeOf s) ∙ ap (splice 4 (le 1 (decodeOf s .security .attempts + 1))) (again s bytes e)
