@@ -3,15 +3,11 @@ ghost use Rattle.rules.specs.Demand1.{Demand1};
 ghost use Rattle.rules.specs.Demand.{Demand};
 
 // Any call gets an answer, and a refusal leaves what it must.
-pub fn demand_1() -> u8
+pub fn demand_1()
     ensures { λ r. ⌜ Demand1 ⌝ }
-{
-    1
-}
+{}
 
 // Two senders, one transfer.
-pub fn demand_3() -> u8
+pub fn demand_3()
     ensures { λ r. ⌜ Demand ⌝ }
-{
-    3
-}
+{}

@@ -68,7 +68,8 @@ pub fn tick(d: Device, area: &[u8]) -> Outcome
     match verdict {
         Verdict::Accepted => {
             let transfer = transfer::time::tick(d.transfer, area);
-            result(Device { transfer, ..d }, verdict, 0)
+            let ticked = Device { transfer, ..d };
+            result(ticked, verdict, 0)
         }
         Verdict::Refused(_) => result(d, verdict, 0),
     }
@@ -82,15 +83,12 @@ pub fn power(d: Device, area: &[u8]) -> Outcome
         Verdict::Accepted => {
             let transfer = transfer::time::power(d.transfer);
             let security = security::change::power(d.security);
-            result(
-                Device {
-                    transfer,
-                    security,
-                    ..d
-                },
-                verdict,
-                0,
-            )
+            let started = Device {
+                transfer,
+                security,
+                ..d
+            };
+            result(started, verdict, 0)
         }
         Verdict::Refused(_) => result(d, verdict, 0),
     }

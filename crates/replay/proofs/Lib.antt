@@ -1,7 +1,9 @@
 pub mod CallLine
 pub mod AnyBuffer
 pub mod Steps
+pub mod Found
 pub mod Turns
 pub mod Joined
 pub mod TextOfLog
 pub mod NeverR
+pub mod Agree

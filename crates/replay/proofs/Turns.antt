@@ -1,17 +1,16 @@
 -- The loop over a part's records: before the first, and one turn.
 -- Assumes nothing.
-use mathlib.Core.Path.{_≡_, refl, ap, subst}
+use mathlib.Core.Path.{_≡_, refl, subst}
 use mathlib.Core.List.{List}
-use Prim.Native.Nat.{ℕ, suc, _+_, _-_, _*_}
-use native.Mathlib.Nat.{add-sub-cancel-left}
+use Prim.Native.Nat.{ℕ, suc, _+_, _<_}
 use native.Mathlib.Omega.{arith}
-use lib.ListN.{take, drop}
 use Rattle.rules.specs.Module.{Module}
-use Rattle.rules.specs.Log.{recordAt}
+use Rattle.rules.specs.Log.{recordsIn, recordAt}
 use Rattle.rules.specs.Replay.{recordLine, recordPlayed, recordLines, moduleAfter}
 use Rattle.text.proofs.Writing.{and-then}
 use Rattle.replay.specs.declared.Played.{Played}
-use Rattle.replay.specs.Replayed.{Replayed, moduleOf}
+use Rattle.replay.specs.Replayed.{Replayed, PlaceReplayed, moduleOf}
+use Rattle.replay.proofs.Found.{place-record}
 
 module _ (number : ℕ) (m : Module) (part : List ℕ) where
   -- the first j records were played, and their lines were written from place 0 on
@@ -22,23 +21,18 @@ module _ (number : ℕ) (m : Module) (part : List ℕ) where
   unfolding recordLines moduleAfter
   none-yet out area p start same = record { wrote = record { next-is = start; new-is = refl }; module-is = same }
 
-  record-again : (j : ℕ) → take (j * 544 + 544 - j * 544) (drop (j * 544) part) ≡ recordAt part j
-  record-again j = ap (λ (k : ℕ). take k (drop (j * 544) part)) (add-sub-cancel-left (j * 544) 544)
-
   step : (j : ℕ) {old out new area area′ : List ℕ} {p q : Played} → FirstPlayed j old out area p
       → Replayed (recordLine (number + j) (moduleAfter m part j) (recordAt part j)) (recordPlayed (moduleAfter m part j) (recordAt part j)) out (p .at) new area′ q
       → FirstPlayed (suc j) old new area′ q
   unfolding recordLines moduleAfter
   step j p q = record { wrote = and-then (omega arith) (p .wrote) (q .wrote); module-is = q .module-is }
 
-  pub one-more : (j : ℕ) {old out new area area′ : List ℕ} {p q : Played} → FirstPlayed j old out area p
-      → Replayed (recordLine (number + j) (moduleOf (p .device) area) (take (j * 544 + 544 - j * 544) (drop (j * 544) part)))
-      (recordPlayed (moduleOf (p .device) area) (take (j * 544 + 544 - j * 544) (drop (j * 544) part))) out (p .at) new area′ q
+  pub one-more : (j : ℕ) {old out new area area′ : List ℕ} {p q : Played} → j < recordsIn part → FirstPlayed j old out area p
+      → PlaceReplayed (number + j) (moduleOf (p .device) area) part j out (p .at) new area′ q
       → FirstPlayed (j + 1) old new area′ q
-  one-more j {old} {out} {new} {area} {area′} {p} {q} before turn =
+  one-more j {old} {out} {new} {area} {area′} {p} {q} inside before turn =
       let next : suc j ≡ j + 1 = omega arith in
       let here : Module = moduleOf (p .device) area in
-      let there : Module = moduleAfter m part j in
-      let at-record = subst (λ (bytes : List ℕ). Replayed (recordLine (number + j) here bytes) (recordPlayed here bytes) out (p .at) new area′ q) (record-again j) turn in
+      let at-record = place-record part j (number + j) here inside turn in
       let at-module = subst (λ (x : Module). Replayed (recordLine (number + j) x (recordAt part j)) (recordPlayed x (recordAt part j)) out (p .at) new area′ q) (before .module-is) at-record in
       subst (λ (k : ℕ). FirstPlayed k old new area′ q) next (step j before at-module)

@@ -5,10 +5,11 @@ ghost use Prim.Native.Nat.{_+_, _*_, _^_, _≤_, _<_};
 ghost use lib.ListN.{length};
 ghost use Rattle.rules.specs.Text.{field};
 ghost use Rattle.rules.specs.Module.{after, tickResult, powerResult};
-ghost use Rattle.rules.specs.Log.{recordsIn};
+ghost use Rattle.rules.specs.Log.{entryOf, recordsIn};
 ghost use Rattle.rules.specs.Replay.{replayCall, printedStatus, printedExt, callLine, heading, tailLine, lastLine};
 ghost use Rattle.text.specs.Wrote.{Wrote};
-ghost use Rattle.replay.specs.Replayed.{Replayed, CallReplayed, RecordReplayed, PartReplayed, moduleOf};
+ghost use Rattle.replay.specs.Replayed.{Replayed, CallReplayed, RecordReplayed, PlaceReplayed, PartReplayed, moduleOf};
+use reader::Found;
 use rules::Device;
 use rules::Entry;
 use rules::Refusal;
@@ -148,22 +149,23 @@ fn play_power(out: &mut [u8], at: usize, number: u64, d: Device, area: &[u8]) ->
     }
 }
 
-// One record of a log is played on the module, and its line is written. The answer buffer may hold anything.
-pub fn play(
+// What a record says is played on the module, and its line is written. The answer buffer may hold anything.
+fn play_entry(
     out: &mut [u8],
     at: usize,
     number: u64,
     d: Device,
     area: &mut [u8],
     answer: &mut [u8],
+    entry: Entry,
     bytes: &[u8],
 ) -> Played
     requires { ⌜ at + 96 ≤ length (now out) ⌝ }
     requires { ⌜ length (now answer) ≡ 64 ⌝ }
+    requires { ⌜ entry ≡ entryOf (now bytes) ⌝ }
     ensures { λ r. ⌜ r .at ≤ at + 96 ⌝ }
     ensures { λ r. ⌜ RecordReplayed number (moduleOf d (now (area .entry))) (now (bytes .entry)) (now (out .entry)) at (now (out .exit)) (now (area .exit)) r ⌝ }
 {
-    let entry = log::decode(bytes);
     match entry {
         Entry::Call {
             host: _,
@@ -188,6 +190,60 @@ pub fn play(
     }
 }
 
+// One record of a log is played on the module, and its line is written.
+pub fn play(
+    out: &mut [u8],
+    at: usize,
+    number: u64,
+    d: Device,
+    area: &mut [u8],
+    answer: &mut [u8],
+    bytes: &[u8],
+) -> Played
+    requires { ⌜ at + 96 ≤ length (now out) ⌝ }
+    requires { ⌜ length (now answer) ≡ 64 ⌝ }
+    ensures { λ r. ⌜ r .at ≤ at + 96 ⌝ }
+    ensures { λ r. ⌜ RecordReplayed number (moduleOf d (now (area .entry))) (now (bytes .entry)) (now (out .entry)) at (now (out .exit)) (now (area .exit)) r ⌝ }
+{
+    let entry = log::decode(bytes);
+    play_entry(out, at, number, d, area, answer, entry, bytes)
+}
+
+// What the reader finds at a place of a log is played, and its line is written: a record's, a short tail's, or none at the end.
+pub fn play_at(
+    out: &mut [u8],
+    at: usize,
+    number: u64,
+    d: Device,
+    area: &mut [u8],
+    answer: &mut [u8],
+    log: &[u8],
+    place: usize,
+) -> Played
+    requires { ⌜ at + 96 ≤ length (now out) ⌝ }
+    requires { ⌜ length (now answer) ≡ 64 ⌝ }
+    ensures { λ r. ⌜ r .at ≤ at + 96 ⌝ }
+    ensures { λ r. ⌜ PlaceReplayed number (moduleOf d (now (area .entry))) (now (log .entry)) place (now (out .entry)) at (now (out .exit)) (now (area .exit)) r ⌝ }
+{
+    let stood = reader::read_at(log, place);
+    let found = stood.found;
+    match found {
+        Found::Record(entry) => {
+            let start = place * 544;
+            let end = start + 544;
+            play_entry(out, at, number, d, area, answer, entry, &log[start..end])
+        }
+        Found::Short => {
+            let next = put_tail(out, at, number);
+            Played {
+                at: next,
+                device: d,
+            }
+        }
+        Found::End => Played { at, device: d },
+    }
+}
+
 // A part of a log that is whole records is played record by record, the first of which has the number given.
 pub fn put_lines(
     out: &mut [u8],
@@ -209,17 +265,8 @@ pub fn put_lines(
     while j < count {
         let at = played.at;
         let device = played.device;
-        let place = j * 544;
-        let end = place + 544;
-        played = play(
-            out,
-            at,
-            number + j as u64,
-            device,
-            area,
-            answer,
-            &part[place..end],
-        );
+        let next = number + j as u64;
+        played = play_at(out, at, next, device, area, answer, part, j);
         j += 1;
     }
     played

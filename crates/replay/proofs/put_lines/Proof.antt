@@ -1,7 +1,7 @@
 -- `replay::put_lines` meets its contract. The loop's invariant: the first j records were played, and their lines were written, at most 96 bytes each.
 -- The measure is what is left of the count.
 use mathlib.Core.Path.{_≡_, refl, subst}
-use Prim.Native.Nat.{ℕ, _≤_, _*_, _-_}
+use Prim.Native.Nat.{ℕ, _≤_, _<_, _*_, _-_}
 use native.Mathlib.Omega.{arith}
 use borrow.Author.Needs.{needs}
 use lib.ListN.{length}
@@ -27,10 +27,11 @@ loop-holds c =
 loop-again : tie.Need-loop-again Inv-loop μ-loop
 loop-again c =
     let k = c .before .before .before .before .before .before in
-    let l = k .before .before .before .before .before .before .before in
+    let l = k .before .before .before .before .before .before in
     let a = l .before .before .before .before .before .args in
     let inv = l .loop .inv in
-    (inv .0, omega arith, omega (arith, k .play .ensures .0), search needs, search needs, search needs, one-more (a .number) (moduleOf (a .d) (a .area .now)) (a .part .now) (l .loop .j) (inv .6) (k .play .ensures .1))
+    let inside : l .loop .j < recordsIn (a .part .now) = omega (arith, inv .0, k .before .before .before .before .before .loop-test .taken) in
+    (inv .0, omega arith, omega (arith, k .play-at .ensures .0), search needs, search needs, search needs, one-more (a .number) (moduleOf (a .d) (a .area .now)) (a .part .now) (l .loop .j) inside (inv .6) (k .play-at .ensures .1))
 
 returns : tie.Need-returns Inv-loop μ-loop
 returns c =
@@ -47,11 +48,6 @@ put-lines-spec =
     Inv-loop
     μ-loop
     loop-holds
-    (λ c. search needs)
-    (λ c. search needs)
-    (λ c. search needs)
-    (λ c. search needs)
-    (λ c. search needs)
     (λ c. search needs)
     (λ c κs. search needs)
     (λ c. search needs)
