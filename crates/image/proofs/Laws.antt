@@ -1,4 +1,4 @@
--- Laws of a record's sum, of the loop over the records, of a good size, and of what the tests together say.
+-- Laws of a record's sum, of its fields' test, of the loop over the records, of a good size, and of what the tests together say.
 -- Assumes nothing.
 use mathlib.Core.Path.{_≡_, sym, _∙_, ap}
 use mathlib.Core.Bool.{Bool, true, false, not, _&&_}
@@ -33,6 +33,22 @@ pub wrapping-sum-of-one-more : (sum word words next : ℕ) (bytes : List ℕ)
     → sum ≡ sumOfWords words bytes % 2 ^ 32 → word ≡ numberAt 4 (words * 4) bytes → next ≡ (sum + word) % 2 ^ 32
     → next ≡ sumOfWords (words + 1) bytes % 2 ^ 32
 wrapping-sum-of-one-more sum word words next bytes s w n = rw (add-one, sum-of-one-more, n, s, w, mod-add-mod)
+
+-- a record whose fields were read: a bad field decides, and where all are good the sum does
+module _ (i n version : ℕ) (bytes : List ℕ) {number count own : ℕ}
+    (number-is : number ≡ numberAt 2 0 bytes) (count-is : count ≡ numberAt 2 2 bytes) (own-is : own ≡ numberAt 8 4 bytes)
+  where
+    abbrev fields : Bool
+    fields = (number =? i) && (count =? n) && (own =? version)
+
+    pub bad-field-decides : fields ≡ false → false ≡ goodRecord i n version bytes
+    unfolding goodRecord
+    bad-field-decides bad = rw (← number-is, ← count-is, ← own-is, bad)
+
+    pub sum-decides : {word sum : ℕ} → fields ≡ true → word ≡ numberAt 4 124 bytes → sum ≡ sumOfWords 31 bytes % 2 ^ 32
+        → (word =? sum) ≡ goodRecord i n version bytes
+    unfolding goodRecord
+    sum-decides good word-is sum-is = rw (← number-is, ← count-is, ← own-is, ← word-is, ← sum-is, good)
 
 -- the records from number i on are record i and those from the next on
 records-from : (n version i : ℕ) (bytes : List ℕ) → i < n

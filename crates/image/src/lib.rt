@@ -19,15 +19,18 @@ fn sum(record: &[u8]) -> u32
     sum
 }
 
-// Record number i of n, with the image's version.
+// Record number i of n, with the image's version. The words are summed past the fields' test, where the version's two are known.
 fn good_record(i: u16, n: u16, version: u64, record: &[u8]) -> bool
     requires { ⌜ length (now «record») ≡ 128 ⌝ }
     ensures { λ r. ⌜ r ≡ goodRecord i n version (now («record» .entry)) ⌝ }
 {
-    (base::half(record, 0) == i)
+    let good_fields = (base::half(record, 0) == i)
         & (base::half(record, 2) == n)
-        & (base::long(record, 4) == version)
-        & (base::word(record, 124) == sum(record))
+        & (base::long(record, 4) == version);
+    if !good_fields {
+        return false;
+    }
+    base::word(record, 124) == sum(record)
 }
 
 // All n records are good. The first bad one decides.
