@@ -9,7 +9,7 @@ use Rattle.rules.specs.Bytes.{zeros}
 use Rattle.rules.specs.Module.{Module, Event, call, tick, power, step}
 use Rattle.rules.specs.Log.{entryOf, requestIn, recordAt}
 use Rattle.rules.specs.Replay.{replayStart, played, recordPlayed, moduleAfter}
-use Rattle.rules.specs.Demand1.{short}
+use Rattle.rules.specs.Demand1.{bufferTooShort}
 use Rattle.rules.specs.declared.Refusal.the-variants.{R, Status}
 use Rattle.rules.specs.declared.Verdict.{Verdict}
 use Rattle.rules.specs.declared.Verdict.the-variants.{Accepted, Refused}
@@ -23,7 +23,7 @@ use Rattle.replay.specs.Verdicts.{entryVerdict, recordVerdict}
 abbrev pub SoundModule : Module → Type 0
 SoundModule m = Sound (m .device) (m .area)
 
-event-sound : (m : Module) (event : Event) → short event ≡ false → SoundModule m
+event-sound : (m : Module) (event : Event) → bufferTooShort event ≡ false → SoundModule m
     → Sound (step (m .device) (m .area) event .device) (step (m .device) (m .area) event .area) × NoR (step (m .device) (m .area) event .reply .verdict)
 event-sound m event room s = (
   record { whole = area-next (m .device) (m .area) event (s .sound) (s .whole); sound = possible-next (m .device) (m .area) event (s .sound) (s .whole) },

@@ -6,9 +6,9 @@ use mathlib.Core.List.{List, []}
 use lib.ListN.{length}
 use Rattle.rules.specs.Numbers.{areaSize}
 use Rattle.rules.specs.Module.{Module, Event, tick}
-use Rattle.rules.specs.History.{log, end, All}
+use Rattle.rules.specs.History.{historyOf, end, All}
 use Rattle.rules.specs.Transfers.{machine, History, none, AllInTurn}
-use Rattle.rules.specs.Demand.{freshWith, struck, StrikeOut, Stages, Due, StagedExactly, Demand, Sound, FromAnywhere, WithAnyHosts}
+use Rattle.rules.specs.Demand.{freshWith, struck, StrikeOut, Stages, Due, StagedExactly, Demand, Sound, FromAnywhere, WithAnyHosts, DemandFromAnywhere, DemandWithAnyHosts}
 use Rattle.rules.proofs.Joining.{plays-log}
 use Rattle.rules.proofs.Struck.{strike-out}
 use Rattle.rules.proofs.Parts.{storeOf, inner}
@@ -21,27 +21,28 @@ use Rattle.rules.proofs.Turn.{turns, hosts-fresh}
 use Rattle.rules.proofs.Pieces.{received, own-pieces}
 use Rattle.rules.proofs.Stage.{Ripe, stages-ripe, ripe-stages, staged-once}
 use Rattle.rules.proofs.Due.{ripe-due, due-ripe}
+use Rattle.rules.proofs.Again.{never-again}
 
 -- From every sound module, and with hosts that use any context.
-pub from-anywhere : (m : Module) → Sound m → (events : List Event) → FromAnywhere m (log machine m events)
+pub from-anywhere : DemandFromAnywhere
 from-anywhere m w events =
-    record { strike-out = st; move = move m (struck h) w (st .plays) (all-remains h); all-moved = all-moved m (struck h) w (st .plays) (all-remains h); staged-once = staged-once m h w }
+    record { strike-out = st; move = move m (struck h) w (st .plays) (all-remains h); all-moved = all-moved m (struck h) w (st .plays) (all-remains h); staged-once = staged-once m h w; never-again = never-again m (struck h) w (st .plays) (all-remains h) }
   where
     h : History
-    h = log machine m events
+    h = historyOf machine m events
 
     st : StrikeOut m h
     st = strike-out m h (plays-log machine m events)
 
 -- From a fresh module, and with hosts that use any context.
-pub with-any-hosts : (area : List ℕ) → length area ≡ areaSize → (events : List Event) → WithAnyHosts (freshWith area) (log machine (freshWith area) events)
+pub with-any-hosts : DemandWithAnyHosts
 with-any-hosts area size events = record { received = λ f. received m r f w refl (st .plays) k; staged-exactly = staging }
   where
     m : Module
     m = freshWith area
 
     h : History
-    h = log machine m events
+    h = historyOf machine m events
 
     r : History
     r = struck h
@@ -86,13 +87,14 @@ demand-3 area size events honest =
       all-moved = anywhere .all-moved;
       staged-exactly = any-hosts .staged-exactly;
       staged-once = anywhere .staged-once;
+      never-again = anywhere .never-again;
     }
   where
     m : Module
     m = freshWith area
 
     h : History
-    h = log machine m events
+    h = historyOf machine m events
 
     r : History
     r = struck h

@@ -176,5 +176,5 @@ demand-1 =
             keeps-size = area-next d area event p l;
             only-R1 = λ number e. only-R1 d area event number p l e;
           };
-      begins = possible-fresh;
+      fresh-possible = possible-fresh;
     }

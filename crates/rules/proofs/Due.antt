@@ -15,7 +15,7 @@ use Rattle.rules.specs.Transfer.{GetFwInfo, Start, Send, Finish, Query, 
 use Rattle.rules.specs.Module.{Module}
 use Rattle.rules.specs.History.{Plays, end, All}
 use Rattle.rules.specs.Transfers.{Answer, Line, History, Kind, Finished, Ticked, Other, kindOf, Open, none, by, sentIn, openAfter}
-use Rattle.rules.specs.Sends.{FinishedIn, tickCount, ticks, powerCount, powerCycles}
+use Rattle.rules.specs.Sends.{FinishedIn, tickCount, ticksIn, powerCount, powerCycles}
 use Rattle.rules.specs.Demand.{remains, Sound, Due}
 use Rattle.rules.specs.declared.Phase.{Phase}
 use Rattle.rules.specs.declared.Phase.the-variants.{Idle, Verifying}
@@ -56,14 +56,14 @@ held-act m (Others a b x n answer) got p z l = record { at = p; count = omega ar
 held-act m Ticks got p z l = held-tick (storeOf m) p l (tick-case (m .device .transfer) (m .area))
 held-act m Powers got p z l = absurd (omega arith)
 
-held : (m : Module) (h : History) → m .device .transfer .phase ≡ Verifying → powerCycles h ≡ 0 → ticks h < m .device .transfer .ticks → Held (storeOf m) (storeOf (end inner m h)) (ticks h)
+held : (m : Module) (h : History) → m .device .transfer .phase ≡ Verifying → powerCycles h ≡ 0 → ticksIn h < m .device .transfer .ticks → Held (storeOf m) (storeOf (end inner m h)) (ticksIn h)
 held m [] p z l = record { at = p; count = omega arith; bytes = refl }
 held m (x ∷ h) p z l =
     let e = kind-act x in
     let a : Held (storeOf m) (storeOf (inner .next m (x .event))) (tickCount (kindOf x)) =
     subst (λ (k : Kind). Held (storeOf m) (storeOf (inner .next m (x .event))) (tickCount k)) (sym e)
     (held-act m (act (x .event)) (x .got) p (omega (arith, ap powerCount e)) (omega (arith, ap tickCount e))) in
-    let b : Held (storeOf (inner .next m (x .event))) (storeOf (end inner m (x ∷ h))) (ticks h) = held (inner .next m (x .event)) h (a .at) (omega arith) (omega (arith, a .count)) in
+    let b : Held (storeOf (inner .next m (x .event))) (storeOf (end inner m (x ∷ h))) (ticksIn h) = held (inner .next m (x .event)) h (a .at) (omega arith) (omega (arith, a .count)) in
     record { at = b .at; count = omega (arith, a .count, b .count); bytes = b .bytes ∙ a .bytes }
 
 -- A record in Verifying has such a history
@@ -77,14 +77,14 @@ record Waiting (h : History) (s : Store) : Type 0 where
   finishes : kindOf finish ≡ Finished host context 0
   of-open : InOpen (openAfter none before) context
   bytes : bytesOf s ≡ sentIn (openAfter none before)
-  count : ticks since + s .transfer .ticks ≡ verification
+  count : ticksIn since + s .transfer .ticks ≡ verification
   some : 1 ≤ s .transfer .ticks
   no-power : powerCycles since ≡ 0
 
 Watch : History → Store → Type 0
 Watch h s = s .transfer .phase ≡ Verifying → Waiting h s
 
-ticks-snoc : (h : History) (x : Line) → ticks (h ++ (x ∷ [])) ≡ ticks h + tickCount (kindOf x)
+ticks-snoc : (h : History) (x : Line) → ticksIn (h ++ (x ∷ [])) ≡ ticksIn h + tickCount (kindOf x)
 ticks-snoc [] x = omega arith
 ticks-snoc (y ∷ h) x = omega (arith, ticks-snoc h x)
 
@@ -264,5 +264,5 @@ due-ripe m h version s o p k d =
     eight : storeOf (inner .next v (f .finish .event)) .transfer .ticks ≡ verification
     eight = ap (λ (z : Store). z .transfer .ticks) e
 
-    hold : Held (storeOf (inner .next v (f .finish .event))) (storeOf (end inner v last)) (ticks (f .since))
+    hold : Held (storeOf (inner .next v (f .finish .event))) (storeOf (end inner v last)) (ticksIn (f .since))
     hold = held (inner .next v (f .finish .event)) (f .since) (ap (λ (z : Store). z .transfer .phase) e) (d .no-power-cycle) (omega (arith, d .seven-ticks, eight))

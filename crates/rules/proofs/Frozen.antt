@@ -6,7 +6,7 @@ use mathlib.Core.Bool.{Bool, true, _||_}
 use mathlib.Core.List.{List, [], _∷_}
 use Prim.Native.Nat.{ℕ}
 use Rattle.rules.specs.Tests.{if_then_else_, _=?_}
-use Rattle.rules.specs.Numbers.{limit}
+use Rattle.rules.specs.Numbers.{attemptLimit}
 use Rattle.rules.specs.Refusals.{verdict}
 use Rattle.rules.specs.Security.{SecurityCall, GetSecurityState, SetPassphrase, Disable, Unlock, Freeze, passphraseChecks, securityChecks}
 use Rattle.rules.specs.declared.Refusal.the-variants.{Status}
@@ -22,7 +22,7 @@ whileFrozen (Disable given) = Refused (Status 10 0)
 whileFrozen (Unlock given) = Refused (Status 10 0)
 whileFrozen Freeze = Refused (Status 10 0)
 
-pub frozen-first : (s : Security) (call : SecurityCall) → (s .frozen || s .attempts =? limit) ≡ true → verdict (securityChecks s call) ≡ whileFrozen call
+pub frozen-first : (s : Security) (call : SecurityCall) → (s .frozen || s .attempts =? attemptLimit) ≡ true → verdict (securityChecks s call) ≡ whileFrozen call
 unfolding verdict
 frozen-first s GetSecurityState e = refl
 frozen-first s (SetPassphrase given new) e = simp e

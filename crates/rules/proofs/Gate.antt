@@ -9,7 +9,7 @@ use Rattle.rules.specs.Transfers.{Answer, machine, Line, History}
 use Rattle.rules.specs.Demand.{remains, Sound}
 use Rattle.rules.proofs.Parts.{act, inner}
 use Rattle.rules.proofs.Through.{Through, shut}
-use Rattle.rules.specs.Demand1.{short}
+use Rattle.rules.specs.Demand1.{bufferTooShort}
 use Rattle.rules.proofs.Facts.{Kept}
 use Rattle.rules.proofs.Possible.{sound-act, sound-through}
 
@@ -18,12 +18,12 @@ abbrev pub Remains : Line → Type 0
 Remains x = Kept (x .got)
 
 abbrev pub Roomy : Line → Type 0
-Roomy x = short (x .event) ≡ false
+Roomy x = bufferTooShort (x .event) ≡ false
 
 pub roomy : (m : Module) (x : Line) → machine .answer m (x .event) ≡ x .got → Remains x → Roomy x
-roomy m x p k = go (short (x .event)) refl
+roomy m x p k = go (bufferTooShort (x .event)) refl
   where
-    go : (b : Bool) → short (x .event) ≡ b → short (x .event) ≡ false
+    go : (b : Bool) → bufferTooShort (x .event) ≡ b → bufferTooShort (x .event) ≡ false
     go true e = absurd (false≢true (ap remains (sym (shut m (x .event) e .R1)) ∙ ap (λ (got : Answer). remains (got .reply .verdict)) p ∙ k))
     go false e = e
 
@@ -35,7 +35,7 @@ pub record Inward (m : Module) (h : History) : Type 0 where
 pub inwards : (m : Module) (h : History) → Sound m → Plays machine m h → All Remains h → Inward m h
 inwards m [] w p k = record { plays = tt; ends = refl; room = tt }
 inwards m (x ∷ h) w p k =
-    let r : short (x .event) ≡ false = roomy m x (p .0) (k .0) in
+    let r : bufferTooShort (x .event) ≡ false = roomy m x (p .0) (k .0) in
     let t : Through m (x .event) = sound-through m (x .event) w r in
     let i : Inward (inner .next m (x .event)) h = inwards (inner .next m (x .event)) h (sound-act m (act (x .event)) w) (subst (λ (u : Module). Plays machine u h) (t .nexts-as) (p .1)) (k .1) in
     record { plays = (sym (t .answers-as) ∙ p .0, i .plays); ends = i .ends ∙ ap (λ (u : Module). end machine u h) (sym (t .nexts-as)); room = (r, i .room) }

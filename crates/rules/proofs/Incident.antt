@@ -13,7 +13,7 @@ use Rattle.rules.specs.Table.{rowOf, fits?}
 use Rattle.rules.specs.Image.{sumOfWords, goodRecord, goodRecords, goodImage, imageOf}
 use Rattle.rules.specs.Module.{Module, Event, call, tick, power, callResult, tickResult, powerResult}
 use Rattle.rules.specs.Replay.{printedStatus, printedExt}
-use Rattle.rules.specs.History.{log, end}
+use Rattle.rules.specs.History.{historyOf, end}
 use Rattle.rules.specs.Transfers.{machine, Line, History}
 use Rattle.rules.specs.Moves.{rearranged}
 use Rattle.rules.specs.Demand.{freshWith, Honest, struck, OneAfterAnother, Demand3}
@@ -70,7 +70,7 @@ abbrev answersIn : History → List (ℕ × ℕ)
 answersIn h = map (λ (x : Line). (printedStatus (x .got .reply .verdict), printedExt (x .got .reply .verdict))) h
 
 -- Which calls are refused: the laptop's Starts, 7/1 while the transfer is received or verified, 7/2 once it is staged, and its Send, 3.
-pub refused : answersIn (log machine new (same-hour ++ restart))
+pub refused : answersIn (historyOf machine new (same-hour ++ restart))
     ≡ (0, 0) ∷ (7, 1) ∷ (0, 0) ∷ (3, 0) ∷ (0, 0) ∷ (0, 0) ∷ (7, 1) ∷ (0, 0) ∷ (7, 1)
     ∷ (0, 0) ∷ (0, 0) ∷ (0, 0) ∷ (0, 0) ∷ (0, 0) ∷ (0, 0) ∷ (0, 0)
     ∷ (0, 0) ∷ (7, 2) ∷ (0, 0) ∷ (0, 0) ∷ (0, 0) ∷ []
@@ -81,15 +81,15 @@ refused = refl
 abbrev staged-version : Module → ℕ
 staged-version m = m .device .transfer .staged
 
-pub staged : end machine new (log machine new (same-hour ++ (tick ∷ []))) .device .transfer .phase ≡ Staged
+pub staged : end machine new (historyOf machine new (same-hour ++ (tick ∷ []))) .device .transfer .phase ≡ Staged
 unfolding zeros? possible possibleTransfer possibleSecurity possibleThresholds verdict rowOf fits? sumOfWords goodRecord goodRecords goodImage imageOf callResult tickResult powerResult
 staged = refl
 
-pub version : staged-version (end machine new (log machine new (same-hour ++ (tick ∷ [])))) ≡ 2
+pub version : staged-version (end machine new (historyOf machine new (same-hour ++ (tick ∷ [])))) ≡ 2
 unfolding zeros? possible possibleTransfer possibleSecurity possibleThresholds verdict rowOf fits? sumOfWords goodRecord goodRecords goodImage imageOf callResult tickResult powerResult
 version = refl
 
-pub running : end machine new (log machine new (same-hour ++ restart)) .device .transfer .running ≡ 2
+pub running : end machine new (historyOf machine new (same-hour ++ restart)) .device .transfer .running ≡ 2
 unfolding zeros? possible possibleTransfer possibleSecurity possibleThresholds verdict rowOf fits? sumOfWords goodRecord goodRecords goodImage imageOf callResult tickResult powerResult
 running = refl
 
@@ -99,24 +99,24 @@ caller (call host revision index request answer) = (host, index)
 caller tick = (0, 0)
 caller power = (0, 1)
 
-pub moved : map (λ (x : Line). caller (x .event)) (rearranged (struck (log machine new same-hour)))
+pub moved : map (λ (x : Line). caller (x .event)) (rearranged (struck (historyOf machine new same-hour)))
     ≡ (2, 12) ∷ (1, 13) ∷ (1, 14) ∷ (1, 14) ∷ (1, 15) ∷ (0, 0) ∷ (0, 0) ∷ (0, 0) ∷ (0, 0) ∷ (0, 0) ∷ (0, 0) ∷ (0, 0) ∷ []
 unfolding zeros? possible possibleTransfer possibleSecurity possibleThresholds verdict rowOf fits? sumOfWords goodRecord goodRecords goodImage imageOf callResult tickResult powerResult
 moved = refl
 
 -- Both hosts are honest: the recorder uses the context that its Start answered, the laptop uses none.
-pub honest : Honest (log machine new (same-hour ++ restart))
+pub honest : Honest (historyOf machine new (same-hour ++ restart))
 unfolding zeros? possible possibleTransfer possibleSecurity possibleThresholds verdict rowOf fits? sumOfWords goodRecord goodRecords goodImage imageOf callResult tickResult powerResult
-honest = checked (log machine new (same-hour ++ restart)) refl
+honest = checked (historyOf machine new (same-hour ++ restart)) refl
 
 -- so all of demand 3 holds of it
-pub as-demanded : Demand3 new (log machine new (same-hour ++ restart))
+pub as-demanded : Demand3 new (historyOf machine new (same-hour ++ restart))
 as-demanded = demand-3 (zeros areaSize) (length-replicate {A = ℕ} areaSize 0) (same-hour ++ restart) honest
 
 -- Honest hosts are needed, and for "each from one host" alone: a laptop that uses the recorder's context is served, and the two send one image.
 abbrev not-honest : List Event
 not-honest = start recorder ∷ send laptop 1 0 (take 64 image) ∷ []
 
-pub needed : OneAfterAnother (struck (log machine new not-honest)) → ⊥
+pub needed : OneAfterAnother (struck (historyOf machine new not-honest)) → ⊥
 unfolding zeros? possible possibleTransfer possibleSecurity possibleThresholds verdict rowOf fits? callResult
 needed t = let same : laptop ≡ recorder = t .1 .0 .0 .0 in omega arith

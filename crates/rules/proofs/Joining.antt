@@ -3,7 +3,7 @@
 use mathlib.Core.Path.{_≡_, refl, _∙_}
 use mathlib.Core.Bool.{Bool, true, false, not}
 use mathlib.Core.List.{List, [], _∷_, _++_}
-use Rattle.rules.specs.History.{Machine, Entry, Plays, end, log, keep, only, except, All, Same}
+use Rattle.rules.specs.History.{Machine, Entry, Plays, end, historyOf, keep, only, except, All, Same}
 
 module _ {X : Type 0} (P : X → Type 0) where
   pub all-left : (h k : List X) → All P (h ++ k) → All P h
@@ -41,7 +41,7 @@ module _ {X : Type 0} (test : X → Bool) where
   passing (x ∷ h) = passing-step (test x) x (only test h) refl (passing h)
 
 module _ {S E A : Type 0} (M : Machine S E A) where
-  pub plays-log : (s : S) (es : List E) → Plays M s (log M s es)
+  pub plays-log : (s : S) (es : List E) → Plays M s (historyOf M s es)
   plays-log s [] = tt
   plays-log s (e ∷ es) = (refl, plays-log (M .next s e) es)
 

@@ -9,7 +9,7 @@ use lib.ListN.{length, length-append, length-take, length-drop}
 use borrow.Author.Tests.{ltb-true, ltb-false, leb-true, lt-ltb, le-leb, eqb-true, eqb-false, eq-eqb, not-true, not-false}
 use Rattle.rules.specs.Tests.{if_then_else_, _=?_, _<?_, _≤?_, _implies_, _unless_}
 use Rattle.rules.specs.Bytes.{zeros?}
-use Rattle.rules.specs.Numbers.{areaSize, verification, limit, lastContext}
+use Rattle.rules.specs.Numbers.{areaSize, verification, attemptLimit, lastContext}
 use Rattle.rules.specs.With.{_with-ticks_, _with-phase_, _with-received_}
 use Rattle.rules.specs.Record.{_is_, possible, possibleTransfer, possibleSecurity, possibleThresholds}
 use Rattle.rules.specs.Refusals.{Check, _gives_, verdict}
@@ -146,7 +146,7 @@ store-tick s w (bad p l i e) =
 pub record RestOk (r : Rest) : Type 0 where
   pub locks : (r .security .locked implies r .security .enabled) ≡ true
   pub phrase : (zeros? (r .security .passphrase) unless r .security .enabled) ≡ true
-  pub tries : r .security .attempts ≤ limit
+  pub tries : r .security .attempts ≤ attemptLimit
   pub bits : r .thresholds .enable < 8
   pub spare : r .thresholds .spare ≤ 100
 
@@ -159,20 +159,20 @@ peel true (R number) rows r x n w f = w
 peel true (Status status ext) rows r x n w f = rw (not-true (status =? 11) n) w
 
 -- the row of the passphrase
-pass : (t : Bool) (r : Rest) (x : RestCall) → r .security .attempts < limit → RestOk r → (t ≡ false → RestOk (restChange r x))
+pass : (t : Bool) (r : Rest) (x : RestCall) → r .security .attempts < attemptLimit → RestOk r → (t ≡ false → RestOk (restChange r x))
     → RestOk (restAfter (verdict ((t gives Status 11 0) ∷ [])) r x)
 unfolding verdict
 pass false r x l w f = f refl
 pass true r x l w f = record { locks = w .locks; phrase = w .phrase; tries = omega arith; bits = w .bits; spare = w .spare }
 
-below-limit : (s : Security) → s .attempts ≤ limit → (s .frozen || s .attempts =? limit) ≡ false → s .attempts < limit
-below-limit s l e = let n = eqb-false (s .attempts) limit (or-false (s .frozen) (s .attempts =? limit) e .1) in omega arith
+below-limit : (s : Security) → s .attempts ≤ attemptLimit → (s .frozen || s .attempts =? attemptLimit) ≡ false → s .attempts < attemptLimit
+below-limit s l e = let n = eqb-false (s .attempts) attemptLimit (or-false (s .frozen) (s .attempts =? attemptLimit) e .1) in omega arith
 
 -- the three rows of a call with a passphrase
 passes : (t u : Bool) (r : Rest) (x : RestCall) → RestOk r → (t ≡ false → RestOk (restChange r x))
-    → RestOk (restAfter (verdict ((r .security .frozen || r .security .attempts =? limit gives Status 10 0) ∷ (t gives Status 10 0) ∷ (u gives Status 11 0) ∷ [])) r x)
+    → RestOk (restAfter (verdict ((r .security .frozen || r .security .attempts =? attemptLimit gives Status 10 0) ∷ (t gives Status 10 0) ∷ (u gives Status 11 0) ∷ [])) r x)
 passes t u r x w f =
-    peel (r .security .frozen || r .security .attempts =? limit) (Status 10 0) ((t gives Status 10 0) ∷ (u gives Status 11 0) ∷ []) r x refl w (λ a.
+    peel (r .security .frozen || r .security .attempts =? attemptLimit) (Status 10 0) ((t gives Status 10 0) ∷ (u gives Status 11 0) ∷ []) r x refl w (λ a.
     peel t (Status 10 0) ((u gives Status 11 0) ∷ []) r x refl w (λ b.
     pass u r x (below-limit (r .security) (w .tries) a) w (λ c. f b)))
 
@@ -197,7 +197,7 @@ lock-next r (Unlock given) w =
     passes (not (r .security .enabled && r .security .locked)) (wrong (r .security) given) r (Locks (Unlock given)) w
     (λ b. record { locks = refl; phrase = w .phrase; tries = omega arith; bits = w .bits; spare = w .spare })
 lock-next r Freeze w =
-    peel (r .security .frozen || r .security .attempts =? limit) (Status 10 0) [] r (Locks Freeze) refl w
+    peel (r .security .frozen || r .security .attempts =? attemptLimit) (Status 10 0) [] r (Locks Freeze) refl w
     (λ a. accept r (Locks Freeze) (record { locks = w .locks; phrase = w .phrase; tries = w .tries; bits = w .bits; spare = w .spare }))
 
 call-next : (r : Rest) (x : RestCall) → RestOk r → RestOk (restAfter (verdict (restChecks r x)) r x)
@@ -245,7 +245,7 @@ ok-possible m w =
       tested (m .device .transfer .phase) (m .device .transfer) (w .stores .within) (w .stores .in-phase),
       w .rests .locks,
       w .rests .phrase,
-      le-leb (m .device .security .attempts) limit (w .rests .tries),
+      le-leb (m .device .security .attempts) attemptLimit (w .rests .tries),
       lt-ltb (m .device .thresholds .enable) 8 (w .rests .bits),
       le-leb (m .device .thresholds .spare) 100 (w .rests .spare),
     )
@@ -257,7 +257,7 @@ possible-ok m e l =
     let three = and-true (possibleTransfer (d .transfer) && possibleSecurity (d .security)) (possibleThresholds (d .thresholds)) e in
     let two = and-true (possibleTransfer (d .transfer)) (possibleSecurity (d .security)) (three .0) in
     let t = tests (d .transfer .phase) (d .transfer) (two .0) in
-    let q = and-true ((d .security .locked implies d .security .enabled) && (zeros? (d .security .passphrase) unless d .security .enabled)) (d .security .attempts ≤? limit) (two .1) in
+    let q = and-true ((d .security .locked implies d .security .enabled) && (zeros? (d .security .passphrase) unless d .security .enabled)) (d .security .attempts ≤? attemptLimit) (two .1) in
     let p = and-true (d .security .locked implies d .security .enabled) (zeros? (d .security .passphrase) unless d .security .enabled) (q .0) in
     let h = and-true (d .thresholds .enable <? 8) (d .thresholds .spare ≤? 100) (three .1) in
     record {
@@ -265,7 +265,7 @@ possible-ok m e l =
       rests = record {
         locks = p .0;
         phrase = p .1;
-        tries = leb-true (d .security .attempts) limit (q .1);
+        tries = leb-true (d .security .attempts) attemptLimit (q .1);
         bits = ltb-true (d .thresholds .enable) 8 (h .0);
         spare = leb-true (d .thresholds .spare) 100 (h .1);
       };

@@ -32,6 +32,7 @@ pub mod Turn
 pub mod Pieces
 pub mod Stage
 pub mod Due
+pub mod Again
 pub mod Demand
 pub mod Checked
 pub mod Incident

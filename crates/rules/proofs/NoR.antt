@@ -8,7 +8,7 @@ use lib.ListN.{length}
 use borrow.Author.Tests.{eqb-true, leb-true, ltb-false}
 use Rattle.rules.specs.Tests.{if_then_else_, _≤?_, _<?_, _=?_, _implies_, _unless_}
 use Rattle.rules.specs.Bytes.{zeros?}
-use Rattle.rules.specs.Numbers.{areaSize, answerRoom, verification, limit}
+use Rattle.rules.specs.Numbers.{areaSize, answerRoom, verification, attemptLimit}
 use Rattle.rules.specs.Record.{_is_, possible, possibleTransfer, possibleSecurity, possibleThresholds}
 use Rattle.rules.specs.Refusals.{Check, _gives_, verdict, R1Check, R2Check, R3Check, eventChecks}
 use Rattle.rules.specs.declared.Phase.the-variants.{Idle, Verifying, Staged}
@@ -53,12 +53,12 @@ call-through d area answer rows v e n =
     (ltb-false (length answer) answerRoom (room .0), event-through d area rows v (room .1) n)
 
 -- a possible record: attempts at most 10, received at most 16,384
-pub attempts-most : (d : Device) → possible d ≡ true → d .security .attempts ≤ limit
+pub attempts-most : (d : Device) → possible d ≡ true → d .security .attempts ≤ attemptLimit
 unfolding possible possibleSecurity
 attempts-most d e =
     let s = d .security in
     let parts = and-3 (possibleTransfer (d .transfer)) (possibleSecurity s) (possibleThresholds (d .thresholds)) e in
-    leb-true (s .attempts) limit (and-3 (s .locked implies s .enabled) (zeros? (s .passphrase) unless s .enabled) (s .attempts ≤? limit) (parts .1) .2)
+    leb-true (s .attempts) attemptLimit (and-3 (s .locked implies s .enabled) (zeros? (s .passphrase) unless s .enabled) (s .attempts ≤? attemptLimit) (parts .1) .2)
 
 pub received-most : (d : Device) → possible d ≡ true → d .transfer .received ≤ areaSize
 unfolding possible possibleTransfer

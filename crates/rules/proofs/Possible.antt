@@ -20,7 +20,7 @@ use Rattle.rules.specs.declared.Verdict.the-variants.{Refused}
 use Rattle.rules.specs.declared.Device.{Device}
 use Rattle.rules.proofs.Parts.{Act, act, nexts}
 use Rattle.rules.proofs.Through.{numbered, Through, through, gate-numbered, shut}
-use Rattle.rules.specs.Demand1.{short}
+use Rattle.rules.specs.Demand1.{bufferTooShort}
 use Rattle.rules.proofs.Keeps.{Ok, ok-next, ok-possible, possible-ok, fit-next}
 
 -- "Fresh" is possible.
@@ -32,9 +32,9 @@ abbrev at : Device → List ℕ → Module
 at d area = record { device = d; area = area }
 
 ok-step : (m : Module) (event : Event) → Ok m → Ok (machine .next m event)
-ok-step m event w = go (short event) refl
+ok-step m event w = go (bufferTooShort event) refl
   where
-    go : (b : Bool) → short event ≡ b → Ok (machine .next m event)
+    go : (b : Bool) → bufferTooShort event ≡ b → Ok (machine .next m event)
     go true e = subst (λ (u : Module). Ok u) (sym (shut m event e .same)) w
     go false e =
         subst (λ (u : Module). Ok u) (sym (through m event e (eq-eqb (length (m .area)) areaSize (w .stores .size)) (ok-possible m w) .nexts-as)) (ok-next m (act event) w)
@@ -49,10 +49,10 @@ area-next d area event p l = ok-step (at d area) event (possible-ok (at d area) 
 
 -- R2 and R3 are never given; R1 only to a call with a short answer buffer.
 pub only-R1 : (d : Device) (area : List ℕ) (event : Event) (number : ℕ) → possible d ≡ true → length area ≡ areaSize
-    → step d area event .reply .verdict ≡ Refused (R number) → (number ≡ 1) × (short event ≡ true)
-only-R1 d area event number p l r = go (short event) refl
+    → step d area event .reply .verdict ≡ Refused (R number) → (number ≡ 1) × (bufferTooShort event ≡ true)
+only-R1 d area event number p l r = go (bufferTooShort event) refl
   where
-    go : (b : Bool) → short event ≡ b → (number ≡ 1) × (short event ≡ true)
+    go : (b : Bool) → bufferTooShort event ≡ b → (number ≡ 1) × (bufferTooShort event ≡ true)
     go true e = let q = shut (at d area) event e .R1 in (cc, e)
     go false e = let q = ap numbered (sym r) ∙ gate-numbered (at d area) event e (eq-eqb (length area) areaSize l) p in let z : _≡_ {A = ℕ} 0 1 = cc in absurd (omega arith)
 
@@ -66,13 +66,13 @@ sound-act m a w =
     record { record-possible = ok-possible (nexts m a) k; contexts-fit = fit-next m a (w .contexts-fit); area-size = k .stores .size }
 
 -- past R1 a sound module is its two parts
-pub sound-through : (m : Module) (event : Event) → Sound m → short event ≡ false → Through m event
+pub sound-through : (m : Module) (event : Event) → Sound m → bufferTooShort event ≡ false → Through m event
 sound-through m event w e = through m event e (eq-eqb (length (m .area)) areaSize (w .area-size)) (w .record-possible)
 
 pub sound-next : (m : Module) (event : Event) → Sound m → Sound (machine .next m event)
-sound-next m event w = go (short event) refl
+sound-next m event w = go (bufferTooShort event) refl
   where
-    go : (b : Bool) → short event ≡ b → Sound (machine .next m event)
+    go : (b : Bool) → bufferTooShort event ≡ b → Sound (machine .next m event)
     go true e = subst (λ (u : Module). Sound u) (sym (shut m event e .same)) w
     go false e = subst (λ (u : Module). Sound u) (sym (sound-through m event w e .nexts-as)) (sound-act m (act event) w)
 

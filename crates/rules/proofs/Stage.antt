@@ -14,7 +14,7 @@ use Rattle.rules.specs.Transfer.{TransferCall, GetFwInfo, Start, Send, F
 use Rattle.rules.specs.Module.{Call, OnMask, OnThresholds, OnTransfer, OnSecurity, OnNothing, Module, Event, call, tick, power}
 use Rattle.rules.specs.History.{end}
 use Rattle.rules.specs.Transfers.{Answer, machine, Line, History, Kind, Started, Sent, Finished, Other, callIn, callKind, kindOf}
-use Rattle.rules.specs.Sends.{tickCount, ticks, powerCount, powerCycles}
+use Rattle.rules.specs.Sends.{tickCount, ticksIn, powerCount, powerCycles}
 use Rattle.rules.specs.Demand.{Sound, Stages, StagedOnce}
 use Rattle.rules.specs.declared.Verdict.the-variants.{Accepted}
 use Rattle.rules.specs.declared.Image.the-variants.{Good, Bad}
@@ -25,7 +25,7 @@ use Rattle.rules.proofs.Choice.{if-both}
 use Rattle.rules.proofs.Joining.{end-join}
 use Rattle.rules.proofs.Parts.{Store, storeOf, Act, Transfers, Others, Ticks, Powers, act, actOf, unserved?, misfit?, storeVerdict, storeChange, storeNext, storeTick, nexts, actKind}
 use Rattle.rules.proofs.Through.{shut, kind-act}
-use Rattle.rules.specs.Demand1.{short}
+use Rattle.rules.specs.Demand1.{bufferTooShort}
 use Rattle.rules.proofs.Facts.{never, start-ok, send-ok, finish-ok, Tick, calm, counting, good, bad, tick-case}
 use Rattle.rules.proofs.Keeps.{store-when}
 use Rattle.rules.proofs.Possible.{sound-through, sound-next, sound-end}
@@ -94,9 +94,9 @@ event-tick tick e = refl
 event-tick power e = let z : _≡_ {A = ℕ} 0 1 = cc in absurd (omega arith)
 
 pub stages-ripe : (m : Module) (event : Event) (version : ℕ) → Sound m → Stages m event version → (event ≡ tick) × Ripe (storeOf m) version
-stages-ripe m event version w g = go (short event) refl
+stages-ripe m event version w g = go (bufferTooShort event) refl
   where
-    go : (b : Bool) → short event ≡ b → (event ≡ tick) × Ripe (storeOf m) version
+    go : (b : Bool) → bufferTooShort event ≡ b → (event ≡ tick) × Ripe (storeOf m) version
     go true e = never (sym (ap (λ (z : Phase). z is Staged) (g .staged)) ∙ ap (λ (u : Module). u .device .transfer .phase is Staged) (shut m event e .same) ∙ g .was)
     go false e =
         let t = sound-through m event w e .nexts-as in
@@ -144,9 +144,9 @@ staged-act m Ticks got p z = ap (λ (s : Store). s .transfer .phase) (still (sto
 staged-act m Powers got p z = absurd (omega arith)
 
 staged-step : (m : Module) (x : Line) → Sound m → m .device .transfer .phase ≡ Staged → powerCount (kindOf x) ≡ 0 → machine .next m (x .event) .device .transfer .phase ≡ Staged
-staged-step m x w p z = go (short (x .event)) refl
+staged-step m x w p z = go (bufferTooShort (x .event)) refl
   where
-    go : (b : Bool) → short (x .event) ≡ b → machine .next m (x .event) .device .transfer .phase ≡ Staged
+    go : (b : Bool) → bufferTooShort (x .event) ≡ b → machine .next m (x .event) .device .transfer .phase ≡ Staged
     go true e = ap (λ (u : Module). u .device .transfer .phase) (shut m (x .event) e .same) ∙ p
     go false e =
         ap (λ (u : Module). u .device .transfer .phase) (sound-through m (x .event) w e .nexts-as)

@@ -17,7 +17,7 @@ use Rattle.rules.specs.Transfer.{TransferCall, GetFwInfo, Start, Send, F
 use Rattle.rules.specs.Module.{Call, OnMask, OnThresholds, OnTransfer, OnSecurity, OnNothing, Module, Event, call, tick, power, after, checks, accepted, outcome, callChecks, callResult, tickResult, powerResult}
 use Rattle.rules.specs.Transfers.{Answer, outOf, machine, Line, callIn, callKind, kindOf, eventKind}
 use Rattle.rules.specs.Demand.{remains}
-use Rattle.rules.specs.Demand1.{short}
+use Rattle.rules.specs.Demand1.{bufferTooShort}
 use Rattle.rules.specs.declared.Refusal.the-variants.{R, Status}
 use Rattle.rules.specs.declared.Verdict.{Verdict}
 use Rattle.rules.specs.declared.Verdict.the-variants.{Accepted, Refused}
@@ -138,7 +138,7 @@ gate-event : (d : Device) (area : List ℕ) → (length area =? areaSize) ≡ tr
 unfolding verdict
 gate-event d area size poss = rw (size, poss)
 
-pub through : (m : Module) (event : Event) → short event ≡ false → (length (m .area) =? areaSize) ≡ true → possible (m .device) ≡ true → Through m event
+pub through : (m : Module) (event : Event) → bufferTooShort event ≡ false → (length (m .area) =? areaSize) ≡ true → possible (m .device) ≡ true → Through m event
 unfolding callResult tickResult powerResult restPower
 through m (call host revision index request answer) room size poss =
     record {
@@ -182,7 +182,7 @@ outcome-numbered (Refused (R number)) d area c n answer e = e
 outcome-numbered (Refused (Status status ext)) d area c n answer e = refl
 
 -- past the gate no R number is given
-pub gate-numbered : (m : Module) (event : Event) → short event ≡ false → (length (m .area) =? areaSize) ≡ true → possible (m .device) ≡ true → numbered (outOf m event .reply .verdict) ≡ true
+pub gate-numbered : (m : Module) (event : Event) → bufferTooShort event ≡ false → (length (m .area) =? areaSize) ≡ true → possible (m .device) ≡ true → numbered (outOf m event .reply .verdict) ≡ true
 unfolding callResult tickResult powerResult
 gate-numbered m (call host revision index request answer) room size poss =
     let c : Call = callIn revision index request in
@@ -201,7 +201,7 @@ shut-call : (d : Device) (area : List ℕ) (revision index : ℕ) (request answe
 unfolding verdict
 shut-call d area revision index request answer e = rw e
 
-pub shut : (m : Module) (event : Event) → short event ≡ true → Shut m event
+pub shut : (m : Module) (event : Event) → bufferTooShort event ≡ true → Shut m event
 unfolding callResult
 shut m (call host revision index request answer) e =
     let gate = shut-call (m .device) (m .area) revision index request answer e in

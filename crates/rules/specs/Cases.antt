@@ -15,14 +15,14 @@ use Rattle.rules.specs.declared.Phase.the-variants.{Receiving, Staged, F
 
 -- What a case does: it makes a call and expects these answer bytes, or lets ticks pass.
 infix 68 _answers_
-pub data Move : Type 0 where
-  _answers_ : Event → List ℕ → Move
-  passing : (ticks : ℕ) → Move
+pub data Deed : Type 0 where
+  _answers_ : Event → List ℕ → Deed
+  passing : (ticks : ℕ) → Deed
 
 -- A row: the module that the case begins with; what is done; and what the case says of record and area in the end.
 pub record Case : Type 0 where
   pub from : Module
-  pub moves : List Move
+  pub deeds : List Deed
   pub ends : Module → Bool
 
 -- Every call is lent 64 bytes of 255, so that an answer byte left unwritten, or one written past the answer, shows.
@@ -41,13 +41,13 @@ abbrev ticked : ℕ → Module → Module
 ticked zero m = m
 ticked (suc ticks) m = ticked ticks (after (next m tick))
 
-abbrev holdsFrom : Module → List Move → (Module → Bool) → Bool
+abbrev holdsFrom : Module → List Deed → (Module → Bool) → Bool
 holdsFrom m [] ends = ends m
-holdsFrom m ((event answers expected) ∷ moves) ends = as-expected (next m event) expected && holdsFrom (after (next m event)) moves ends
-holdsFrom m (passing ticks ∷ moves) ends = holdsFrom (ticked ticks m) moves ends
+holdsFrom m ((event answers expected) ∷ deeds) ends = as-expected (next m event) expected && holdsFrom (after (next m event)) deeds ends
+holdsFrom m (passing ticks ∷ deeds) ends = holdsFrom (ticked ticks m) deeds ends
 
 abbrev pub holds : Case → Bool
-holds c = holdsFrom (c .from) (c .moves) (c .ends)
+holds c = holdsFrom (c .from) (c .deeds) (c .ends)
 
 -- the numbers of the rows that do not hold
 abbrev pub failing : (number : ℕ) → List Case → List ℕ
@@ -77,12 +77,13 @@ abbrev set-passphrase : List ℕ → Event
 set-passphrase new = ask 20 (zeros 32 ++ new)
 
 abbrev disable : List ℕ → Event
-disable given = ask 21 given
+disable current = ask 21 current
 
--- an answer that is a status alone, and Start's
+-- an answer that is a status alone
 abbrev status : ℕ → List ℕ
 status n = le 2 n ++ le 2 0
 
+-- the answer of the first Start
 abbrev started : List ℕ
 started = status 0 ++ le 4 1
 
@@ -99,7 +100,7 @@ abbrev one-record : (payload last : List ℕ) → List ℕ
 one-record payload last = le 2 0 ++ le 2 1 ++ le 8 1 ++ payload ++ last
 
 -- its whole transfer, which stages version 1
-abbrev staging : List ℕ → List Move
+abbrev staging : List ℕ → List Deed
 staging image =
     start answers started
     ∷ send 0 128 image answers status 0
@@ -108,9 +109,9 @@ staging image =
     ∷ query answers (status 0 ++ le 8 1)
     ∷ []
 
-abbrev repeated : ℕ → Move → List Move
-repeated zero move = []
-repeated (suc n) move = move ∷ repeated n move
+abbrev repeated : ℕ → Deed → List Deed
+repeated zero deed = []
+repeated (suc n) deed = deed ∷ repeated n deed
 
 -- what a case may say of the end
 abbrev failed : Module → Bool
@@ -123,15 +124,20 @@ abbrev received-all : Module → Bool
 received-all m =
     m .device .transfer .received =? 16384 && same? (m .area) (replicate 16380 7 ++ (1 ∷ 2 ∷ 3 ∷ 4 ∷ []))
 
-abbrev case-from : Module → List Move → (Module → Bool) → Case
-case-from from moves ends = record { from = from; moves = moves; ends = ends }
+-- no byte of a piece was taken: so many bytes are received, as before, and the area is full of 7
+abbrev received-still : ℕ → Module → Bool
+received-still n m = m .device .transfer .received =? n && same? (m .area) (replicate areaSize 7)
 
--- a case that begins with a fresh module and an area of zeros; one that says nothing of the end
-abbrev case-to : List Move → (Module → Bool) → Case
-case-to moves ends = case-from replayStart moves ends
+abbrev case-from : Module → List Deed → (Module → Bool) → Case
+case-from from deeds ends = record { from = from; deeds = deeds; ends = ends }
 
-abbrev case : List Move → Case
-case moves = case-to moves (λ m. true)
+-- a case that begins with a fresh module and an area of zeros
+abbrev case-to : List Deed → (Module → Bool) → Case
+case-to deeds ends = case-from replayStart deeds ends
+
+-- one that says nothing of the end
+abbrev case : List Deed → Case
+case deeds = case-to deeds (λ m. true)
 
 abbrev pub cases : List Case
 cases =
@@ -143,8 +149,8 @@ cases =
     ∷ case (ask 18 [] answers status 1 ∷ [])
     -- "Send at 16,380, length 4, received 16,380: accepted; at 16,381: 3." The second also with 16,381 received, where the sum alone decides.
     ∷ case-from (receiving 16380) (send 16380 4 (1 ∷ 2 ∷ 3 ∷ 4 ∷ []) answers status 0 ∷ []) received-all
-    ∷ case-from (receiving 16380) (send 16381 4 (1 ∷ 2 ∷ 3 ∷ 4 ∷ []) answers status 3 ∷ []) (λ m. true)
-    ∷ case-from (receiving 16381) (send 16381 4 (1 ∷ 2 ∷ 3 ∷ 4 ∷ []) answers status 3 ∷ []) (λ m. true)
+    ∷ case-from (receiving 16380) (send 16381 4 (1 ∷ 2 ∷ 3 ∷ 4 ∷ []) answers status 3 ∷ []) (received-still 16380)
+    ∷ case-from (receiving 16381) (send 16381 4 (1 ∷ 2 ∷ 3 ∷ 4 ∷ []) answers status 3 ∷ []) (received-still 16381)
     -- "while Idle, offset 4,294,967,295, length 2, two piece bytes: 3, not 7/1."
     ∷ case (send 4294967295 2 (1 ∷ 2 ∷ []) answers status 3 ∷ [])
     -- "length 512 accepted, 513: 3; length 0: 3."
@@ -156,7 +162,7 @@ cases =
     -- "one record, version 1, zero payload: last bytes 01 00 01 00; with bytes 12 to 15 FF: 00 00 01 00."
     ∷ case-to (staging (one-record (zeros 112) (0x01 ∷ 0x00 ∷ 0x01 ∷ 0x00 ∷ []))) staged-1
     ∷ case-to (staging (one-record (replicate 4 0xFF ++ zeros 108) (0x00 ∷ 0x00 ∷ 0x01 ∷ 0x00 ∷ []))) staged-1
-    -- "ten wrong passphrases, then the right one: ten times 11, then 10."
+    -- "ten wrong passphrases, then the right one: ten times 11, then 10." Here by Disable (docs/DECISIONS.md, A38).
     ∷ case
     (set-passphrase (replicate 32 9) answers status 0
     ∷ repeated 10 (disable (replicate 32 8) answers status 11)

@@ -1,6 +1,6 @@
 -- Demand 3, sentence by sentence, over any history of raw calls, ticks and power cycles. docs/DEMAND-3.md walks through it.
 -- Assumes nothing.
-use Prim.Native.Nat.{ℕ, _≤_}
+use Prim.Native.Nat.{ℕ, _≤_, _<_}
 use mathlib.Core.Path.{_≡_}
 use mathlib.Core.Logic.{_⊎_, _↔_}
 use mathlib.Core.Bool.{Bool, true, false}
@@ -12,9 +12,9 @@ use Rattle.rules.specs.Record.{_is_, fresh, possible}
 use Rattle.rules.specs.Image.{imageOf}
 use Rattle.rules.specs.Transfer.{GetFwInfo, Start, Send, Finish, Query, receivedBytes}
 use Rattle.rules.specs.Module.{Call, OnMask, OnThresholds, OnTransfer, OnSecurity, OnNothing, Module, Event, call, tick, power}
-use Rattle.rules.specs.History.{log, end, Same, only, All, _and-then_}
+use Rattle.rules.specs.History.{historyOf, end, Same, only, All, _and-then_}
 use Rattle.rules.specs.Transfers.{outOf, machine, Line, History, Started, callIn, kindOf, none, AllInTurn}
-use Rattle.rules.specs.Sends.{ownSends, pieces, SentBy, FinishedIn, ticks, powerCycles}
+use Rattle.rules.specs.Sends.{ownSends, pieces, SentBy, FinishedIn, ticksIn, powerCycles}
 use Rattle.rules.specs.Moves.{moved, ByMoves, rearranged, Unbroken}
 use Rattle.rules.specs.declared.Refusal.the-variants.{R, Status}
 use Rattle.rules.specs.declared.Verdict.{Verdict}
@@ -87,7 +87,7 @@ abbrev pub Received : Module → {h : History} → FinishedIn h → Type 0
 Received m f = receivedBytes (atFinish m f .device .transfer) (atFinish m f .area) ≡ pieces (ownSends (f .context) (f .between))
 
 -- Two senders, one transfer: at a transfer's accepted Finish the received bytes of the area are exactly the pieces of its own Sends, joined in order; every
--- one of those Sends was made by the host that made its Start, and so was the Finish. No byte of another sender is among them. This is what went wrong at sea.
+-- one of those Sends was made by the host that made its Start, and so was the Finish. No byte of another sender is among them.
 pub record OwnPieces (m : Module) {h : History} (f : FinishedIn h) : Type 0 where
   pub received : Received m f
   pub one-sender : All (λ x. SentBy (f .starter) (kindOf x)) (ownSends (f .context) (f .between))
@@ -110,13 +110,13 @@ pub record Stages (m : Module) (event : Event) (version : ℕ) : Type 0 where
   pub staged : outOf m event .device .transfer .phase ≡ Staged
   pub with : outOf m event .device .transfer .staged ≡ version
 
--- A staging is due: the history ends with an accepted, non-abort Finish of a transfer whose pieces, joined, are a good image of this version; then seven
--- ticks, and no power cycle.
+-- A staging is due: the history has an accepted, non-abort Finish of a transfer whose pieces, joined, are a good image of this version; after it come
+-- exactly seven ticks, no power cycle, and any other calls.
 pub record Due (h : History) (version : ℕ) : Type 0 where
   pub transfer : FinishedIn h
   pub no-abort : transfer .flag ≡ 0
   pub good : imageOf (pieces (ownSends (transfer .context) (transfer .between))) ≡ Good version
-  pub seven-ticks : ticks (transfer .since) ≡ 7
+  pub seven-ticks : ticksIn (transfer .since) ≡ 7
   pub no-power-cycle : powerCycles (transfer .since) ≡ 0
 
 -- "exactly when a good image's accepted, non-abort Finish is followed by eight ticks before any power cycle": the next event after the history h stages a
@@ -124,7 +124,8 @@ pub record Due (h : History) (version : ℕ) : Type 0 where
 abbrev pub StagedExactly : Module → History → Type 0
 StagedExactly m h = (event : Event) (version : ℕ) → Stages (end machine m h) event version ↔ ((event ≡ tick) × Due (struck h) version)
 
--- "An image is staged once": between an entry that stages and a later event that stages there is a power cycle.
+-- "An image is staged once": between an entry that stages and a later event that stages there is a power cycle. That one Finish never stages twice is in
+-- `StagedExactly`: what stages is the eighth tick after it, before any power cycle.
 abbrev pub StagedOnce : Module → History → Type 0
 StagedOnce m h =
     (before between : History) (x : Line) (event : Event) (first second : ℕ)
@@ -132,6 +133,15 @@ StagedOnce m h =
     → Stages (end machine m before) (x .event) first
     → Stages (end machine m h) event second
     → 1 ≤ powerCycles between
+
+-- "Numbers outlive power cycles and are never given again": of two Starts of a history the later is answered the higher number.
+abbrev pub NeverAgain : History → Type 0
+NeverAgain h =
+    (before between since : History) (x y : Line) (host other first second : ℕ)
+    → h ≡ before and-then x ∷ between and-then y ∷ since
+    → kindOf x ≡ Started host first
+    → kindOf y ≡ Started other second
+    → first < second
 
 -- Demand 3, for a module m and a history h from it.
 pub record Demand3 (m : Module) (h : History) : Type 0 where
@@ -142,14 +152,15 @@ pub record Demand3 (m : Module) (h : History) : Type 0 where
   pub all-moved : AllMoved m (struck h)
   pub staged-exactly : StagedExactly m h
   pub staged-once : StagedOnce m h
+  pub never-again : NeverAgain (struck h)
 
 -- "Begin with a fresh module, .. and let hosts' calls, ticks and power cycles come in any order, each host using only context numbers that a Start answered
 -- to it."
 abbrev pub Demand : Type 0
 Demand =
     (area : List ℕ) → length area ≡ areaSize → (events : List Event)
-    → Honest (log machine (freshWith area) events)
-    → Demand3 (freshWith area) (log machine (freshWith area) events)
+    → Honest (historyOf machine (freshWith area) events)
+    → Demand3 (freshWith area) (historyOf machine (freshWith area) events)
 
 -- A module whose record is possible and has the declared width of contexts, with an area of the right size.
 pub record Sound (m : Module) : Type 0 where
@@ -163,8 +174,17 @@ pub record FromAnywhere (m : Module) (h : History) : Type 0 where
   pub move : Move m (struck h)
   pub all-moved : AllMoved m (struck h)
   pub staged-once : StagedOnce m h
+  pub never-again : NeverAgain (struck h)
+
+abbrev pub DemandFromAnywhere : Type 0
+DemandFromAnywhere = (m : Module) → Sound m → (events : List Event) → FromAnywhere m (historyOf machine m events)
 
 -- What holds from a fresh module, whatever contexts the hosts use. Only "each from one host" is left: it alone needs honest hosts.
 pub record WithAnyHosts (m : Module) (h : History) : Type 0 where
   pub received : (f : FinishedIn (struck h)) → Received m f
   pub staged-exactly : StagedExactly m h
+
+abbrev pub DemandWithAnyHosts : Type 0
+DemandWithAnyHosts =
+    (area : List ℕ) → length area ≡ areaSize → (events : List Event)
+    → WithAnyHosts (freshWith area) (historyOf machine (freshWith area) events)

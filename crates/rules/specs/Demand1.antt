@@ -1,10 +1,10 @@
 -- Demand 1. "Any call, with any bytes and any device record, gets an answer and ends. A call we can't serve is refused by its number in document 01. A
 -- refused call leaves the device record and the staging area unchanged, but for one thing: a wrong passphrase adds one to the attempt count."
--- That a call ends is proved of the code, with every function of it. What it answers is said here, of the definitions.
+-- That every call ends is proved of the code, function by function. What it answers is said here, of the definitions.
 -- Assumes nothing.
 use mathlib.Core.Path.{_≡_}
 use mathlib.Core.Bool.{Bool, true, false, _&&_, _||_}
-use mathlib.Core.List.{List, [], _∷_, _++_}
+use mathlib.Core.List.{List, _++_}
 use Prim.Native.Nat.{ℕ, _-_}
 use lib.ListN.{length, take}
 use Rattle.rules.specs.Tests.{if_then_else_, _≤?_, _<?_, _=?_}
@@ -22,14 +22,14 @@ use Rattle.rules.specs.declared.Refusal.the-variants.{R, Status}
 use Rattle.rules.specs.declared.Verdict.the-variants.{Accepted, Refused}
 use Rattle.rules.specs.declared.Device.{Device}
 
--- the refusal numbers of document 01: R1 to R3; 1, 3, 6, 8, 10, 11; 7 with an extended number from 1 to 4
+-- the refusal numbers of document 01: R1 to R3; 1, 3, 6, 8, 10, 11; 7 with an extended number from 1 to 4. When each is given, the checks say.
 abbrev pub numbered : Refusal → Bool
 numbered (R number) = 1 ≤? number && number ≤? 3
 numbered (Status status ext) =
     (ext =? 0 && (status =? 1 || status =? 3 || status =? 6 || status =? 8 || status =? 10 || status =? 11))
     || (status =? 7 && 1 ≤? ext && ext ≤? 4)
 
--- the column "Answer bytes" of the refusal table, for a function whose answer has n bytes
+-- the column "Answer bytes" of the refusal table, for a function whose answer has n bytes: said again, number by number, to hold `statusLength` to it
 abbrev pub column : (status n : ℕ) → ℕ
 column status n =
     if status =? 1 || status =? 10 || status =? 11 then 4
@@ -81,20 +81,20 @@ pub record OfCall (d : Device) (area : List ℕ) (revision index : ℕ) (request
       → Answered (rowOf index) answer (callResult d area revision index request answer)
 
 -- the answer buffer is too short for a call
-abbrev pub short : Event → Bool
-short (call host revision index request answer) = length answer <? answerRoom
-short tick = false
-short power = false
+abbrev pub bufferTooShort : Event → Bool
+bufferTooShort (call host revision index request answer) = length answer <? answerRoom
+bufferTooShort tick = false
+bufferTooShort power = false
 
--- Every event, a call, a tick or a power cycle, takes a possible record to a possible record and keeps the area's size; and it needs no R number but R1, for
+-- Every event, a call, a tick or a power cycle, takes a possible record to a possible record and keeps the area's size; and it gives no R number but R1, for
 -- an answer buffer that is too short.
 pub record OfEvent (d : Device) (area : List ℕ) (event : Event) : Type 0 where
   pub stays-possible : possible (step d area event .device) ≡ true
   pub keeps-size : length (step d area event .area) ≡ areaSize
-  pub only-R1 : (number : ℕ) → step d area event .reply .verdict ≡ Refused (R number) → (number ≡ 1) × (short event ≡ true)
+  pub only-R1 : (number : ℕ) → step d area event .reply .verdict ≡ Refused (R number) → (number ≡ 1) × (bufferTooShort event ≡ true)
 
 -- Demand 1: any call with any bytes and any device record; and a fresh module's record is possible, so that what is said of events holds from there on.
 pub record Demand1 : Type 0 where
   pub calls : (d : Device) (area : List ℕ) (revision index : ℕ) (request answer : List ℕ) → OfCall d area revision index request answer
   pub events : (d : Device) (area : List ℕ) (event : Event) → possible d ≡ true → length area ≡ areaSize → OfEvent d area event
-  pub begins : possible fresh ≡ true
+  pub fresh-possible : possible fresh ≡ true

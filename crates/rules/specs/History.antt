@@ -17,9 +17,9 @@ pub record Entry (E A : Type 0) : Type 0 where
 
 module _ {S E A : Type 0} (M : Machine S E A) where
   -- the history that these events make, from the state s
-  abbrev pub log : S → List E → List (Entry E A)
-  log s [] = []
-  log s (event ∷ events) = record { event = event; got = M .answer s event } ∷ log (M .next s event) events
+  abbrev pub historyOf : S → List E → List (Entry E A)
+  historyOf s [] = []
+  historyOf s (event ∷ events) = record { event = event; got = M .answer s event } ∷ historyOf (M .next s event) events
 
   -- from the state s, every event of the history is answered just as the history says
   abbrev pub Plays : S → List (Entry E A) → Type 0

@@ -21,7 +21,7 @@ goodRecord i n version bytes =
     (numberAt 2 0 bytes =? i)
     && (numberAt 2 2 bytes =? n)
     && (numberAt 8 4 bytes =? version)
-    && (numberAt 4 124 bytes =? sumOfWords 31 bytes % 2 ^ 32)
+    && (numberAt 4 124 bytes =? (sumOfWords 31 bytes) % (2 ^ 32))
 
 -- so many records, from number i on
 unfoldable pub goodRecords : (records i n version : ℕ) → List ℕ → Bool
@@ -31,12 +31,13 @@ goodRecords (suc records) i n version bytes =
 
 -- "received is n times 128, n from 1 to 128."
 abbrev pub goodSize : List ℕ → Bool
-goodSize bytes = (length bytes =? length bytes / 128 * 128) && (1 ≤? length bytes / 128) && (length bytes / 128 ≤? 128)
+goodSize bytes = (length bytes =? (length bytes / 128) * 128) && (1 ≤? length bytes / 128) && (length bytes / 128 ≤? 128)
 
--- "a nonzero version": that of record 0
+-- the version of record 0
 abbrev pub versionOf : List ℕ → ℕ
 versionOf bytes = numberAt 8 4 bytes
 
+-- The size, "a nonzero version", and every record.
 unfoldable pub goodImage : List ℕ → Bool
 goodImage bytes =
     goodSize bytes

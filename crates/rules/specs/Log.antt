@@ -44,7 +44,7 @@ goodCall bytes = (1 ≤? hostIn bytes) && (hostIn bytes ≤? 4) && (lengthIn byt
 abbrev pub bare : List ℕ → Bool
 bare bytes = zeros? (drop 1 bytes)
 
--- "Any other record is bad and skipped."
+-- "Any other record is bad and skipped." A tail of less than a record is not asked: it is short.
 unfoldable pub entryOf : List ℕ → Entry
 entryOf bytes =
     if not (length bytes =? recordSize) then Bad

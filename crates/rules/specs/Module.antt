@@ -50,7 +50,8 @@ checks d (OnTransfer call) = transferChecks (d .transfer) call
 checks d (OnSecurity call) = securityChecks (d .security) call
 checks d OnNothing = []
 
--- the bytes of an accepted call's answer: "a 2-byte status and a 2-byte extended number .., but for function 0"
+-- the bytes of an accepted call's answer: "a 2-byte status and a 2-byte extended number .., but for function 0". An index that the table lacks is never
+-- accepted, so that its line is never used.
 abbrev pub accepted : Device → Call → List ℕ
 accepted d (OnMask revision) = le 4 (mask revision)
 accepted d (OnThresholds call) = statusBytes 0 0 ++ thresholdAnswer (d .thresholds) call
@@ -118,12 +119,12 @@ outcome (Refused (Status status ext)) d area call n answer =
       answer = answerAfter (statusAnswer status ext n) answer;
     }
 
--- A call: any record of the declared widths, any area, any revision and function index, any request, any answer buffer.
+-- A call: any record, any area, any revision and function index, any request, any answer buffer.
 unfoldable pub callResult : Device → (area : List ℕ) (revision index : ℕ) (request answer : List ℕ) → Result
 callResult d area revision index request answer =
     outcome (verdict (callChecks d area revision index request answer)) d area (callOf (rowOf index .function) revision request) (rowOf index .answer) answer
 
--- what a verdict on a tick or a power cycle comes to, which writes no byte
+-- what a verdict on a tick or a power cycle comes to; no buffer is lent, so that the answer is the empty list
 abbrev pub happened : Verdict → (changed was : Device) (area : List ℕ) → Result
 happened Accepted changed was area = record { reply = reply Accepted 0; device = changed; area = area; answer = [] }
 happened (Refused refusal) changed was area =

@@ -11,7 +11,7 @@ use Rattle.rules.specs.Sends.{ownSends, others, FinishedIn}
 
 -- a Start behind the others of what stood between; after it the transfer's own Sends, and what follows
 abbrev pub othersFirst : (context : ℕ) (start : Line) (between rest : History) → History
-othersFirst context start between rest = others context between and-then start ∷ ownSends context between and-then rest
+othersFirst context start between rest = others context between and-then (start ∷ (ownSends context between and-then rest))
 
 -- the history with one move made
 abbrev pub moved : {h : History} → FinishedIn h → History

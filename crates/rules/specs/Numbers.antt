@@ -19,12 +19,12 @@ abbrev pub verification : ℕ
 verification = 8
 
 -- "a tick stands for 1,000 microseconds."
-abbrev pub microseconds : ℕ
-microseconds = 1000
+abbrev pub tickMicroseconds : ℕ
+tickMicroseconds = 1000
 
 -- "Wrong passphrases before the limit: 10."
-abbrev pub limit : ℕ
-limit = 10
+abbrev pub attemptLimit : ℕ
+attemptLimit = 10
 
 -- "Context numbers 1 to 4,294,967,295."
 abbrev pub lastContext : ℕ

@@ -1,11 +1,11 @@
--- Document 01, "The device record": fresh, live, possible. The record itself is declared in src/lib.rt, and its widths there bound its fields: contexts is
--- at most 4,294,967,295, a passphrase is 32 bytes.
+-- Document 01, "The device record": fresh, live, possible. The record itself is declared in src/lib.rt. Here a field is any number; the widths declared
+-- there keep the code's in range: contexts at most 4,294,967,295, a passphrase of 32 bytes.
 -- Assumes nothing.
 use Prim.Native.Nat.{ℕ}
-use mathlib.Core.Bool.{Bool, true, false, not, _&&_, _||_}
+use mathlib.Core.Bool.{Bool, false, not, _&&_}
 use Rattle.rules.specs.Tests.{_≤?_, _<?_, _=?_, _implies_, _unless_}
 use Rattle.rules.specs.Bytes.{zeros, zeros?}
-use Rattle.rules.specs.Numbers.{areaSize, verification, limit}
+use Rattle.rules.specs.Numbers.{areaSize, verification, attemptLimit}
 use Rattle.rules.specs.declared.Phase.{Phase}
 use Rattle.rules.specs.declared.Phase.the-variants.{Idle, Receiving, Verifying, Staged, Failed}
 use Rattle.rules.specs.declared.Transfer.{Transfer}
@@ -13,7 +13,7 @@ use Rattle.rules.specs.declared.Thresholds.{Thresholds}
 use Rattle.rules.specs.declared.Security.{Security}
 use Rattle.rules.specs.declared.Device.{Device}
 
--- "Phase (Idle, Receiving, Verifying, Staged, Failed)", in that order
+-- "Phase (Idle, Receiving, Verifying, Staged, Failed)", numbered in that order, so that two phases can be compared
 abbrev pub phaseNumber : Phase → ℕ
 phaseNumber Idle = 0
 phaseNumber Receiving = 1
@@ -49,7 +49,7 @@ possibleTransfer t =
     (1 ≤? t .contexts unless t .phase is Idle)
     && (t .received ≤? areaSize)
     && (t .phase is Idle implies t .received =? 0)
-    && (t .phase is Verifying implies 1 ≤? t .ticks && t .ticks ≤? verification)
+    && (t .phase is Verifying implies (1 ≤? t .ticks && t .ticks ≤? verification))
     && (t .ticks =? 0 unless t .phase is Verifying)
     && (t .staged =? 0 unless t .phase is Staged)
 
@@ -58,7 +58,7 @@ unfoldable pub possibleSecurity : Security → Bool
 possibleSecurity s =
     (s .locked implies s .enabled)
     && (zeros? (s .passphrase) unless s .enabled)
-    && (s .attempts ≤? limit)
+    && (s .attempts ≤? attemptLimit)
 
 -- "only enable bits 0 to 2 set; spare threshold at most 100."
 unfoldable pub possibleThresholds : Thresholds → Bool

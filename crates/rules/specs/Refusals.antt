@@ -1,9 +1,9 @@
--- Document 01, "Refusal numbers, and what each leaves". An event's checks are rows in the page's order, and the first row whose test is true refuses.
+-- Document 01, "Refusal numbers, and what each leaves". An event's checks stand in the page's order, and the first whose test is true refuses.
 -- Assumes nothing.
 use Prim.Native.Nat.{ℕ, _+_, _-_}
 use mathlib.Core.Bool.{Bool, true, false, not}
 use mathlib.Core.List.{List, [], _∷_, _++_}
-use lib.ListN.{length, drop}
+use lib.ListN.{length}
 use Rattle.rules.specs.Tests.{if_then_else_, _=?_, _<?_}
 use Rattle.rules.specs.Bytes.{le, zeros, splice}
 use Rattle.rules.specs.Numbers.{areaSize, answerRoom}
@@ -15,15 +15,15 @@ use Rattle.rules.specs.declared.Verdict.{Verdict}
 use Rattle.rules.specs.declared.Verdict.the-variants.{Accepted, Refused}
 use Rattle.rules.specs.declared.Device.{Device}
 
--- a row: where the test is true, this refusal is given
+-- a check: where the test is true, this refusal is given
 infix 20 _gives_
 pub data Check : Type 0 where
   _gives_ : (test : Bool) (refusal : Refusal) → Check
 
--- the first row whose test is true decides; where none is, the event is accepted
+-- the first check whose test is true decides; where none is, the event is accepted
 unfoldable pub verdict : List Check → Verdict
 verdict [] = Accepted
-verdict ((test gives refusal) ∷ rows) = if test then Refused refusal else verdict rows
+verdict ((test gives refusal) ∷ checks) = if test then Refused refusal else verdict checks
 
 -- "R1 | answer buffer shorter than 64"
 abbrev pub R1Check : List ℕ → Check
@@ -41,7 +41,7 @@ R3Check d = not (possible d) gives R 3
 abbrev pub eventChecks : Device → List ℕ → List Check
 eventChecks d area = R2Check area ∷ R3Check d ∷ []
 
--- "A call is refused if it gives an R number or a nonzero status; every other call is accepted"
+-- "A call is refused if it gives an R number or a nonzero status; every other call is accepted, function 0 among them."
 abbrev pub refused? : Verdict → Bool
 refused? Accepted = false
 refused? (Refused refusal) = true
@@ -50,7 +50,8 @@ refused? (Refused refusal) = true
 abbrev pub statusBytes : (status ext : ℕ) → List ℕ
 statusBytes status ext = le 2 status ++ le 2 ext
 
--- the column "Answer bytes" for a status: 4 for status 1, else the function's length
+-- the column "Answer bytes" for a status: 4 for status 1, else the function's own length, which is the column's 12 for 6 (Query), 8 for 8 (Start) and 4 for
+-- 10 and 11 (20 to 23)
 abbrev pub statusLength : (status functionLength : ℕ) → ℕ
 statusLength status n = if status =? 1 then 4 else n
 

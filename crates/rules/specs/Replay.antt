@@ -1,9 +1,10 @@
--- Document 01, "The replay program": the text that a log's replay prints, byte for byte. Every line ends with a line feed.
+-- Document 01, "The replay program": the text that a log's replay prints, byte for byte. Every line, the last too, ends with a line feed
+-- (docs/DECISIONS.md, A31).
 -- Assumes nothing.
 use Prim.Native.Nat.{ℕ, zero, suc, _+_}
 use Prim.Native.String.{String}
 use mathlib.Core.Bool.{Bool}
-use mathlib.Core.List.{List, [], _∷_, _++_}
+use mathlib.Core.List.{List, [], _++_}
 use lib.ListN.{length}
 use Rattle.rules.specs.Tests.{if_then_else_, _=?_}
 use Rattle.rules.specs.Bytes.{zeros}
@@ -26,7 +27,7 @@ use Rattle.rules.specs.declared.Entry.the-variants.{Call, Tick, Power, B
 abbrev pub replayStart : Module
 replayStart = record { device = fresh; area = zeros areaSize }
 
--- a log record's call, lent an answer buffer of 64 zeros
+-- a log record's call, lent an answer buffer of 64 zeros (A34)
 abbrev pub replayCall : Module → (revision index : ℕ) (request : List ℕ) → Result
 replayCall m revision index request = callResult (m .device) (m .area) revision index request (zeros answerRoom)
 
@@ -37,7 +38,7 @@ played m Tick request = after (tickResult (m .device) (m .area))
 played m Power request = after (powerResult (m .device) (m .area))
 played m Bad request = m
 
--- The two numbers of a call's line. A replay never gives an R number (docs/DECISIONS.md, A33).
+-- The two numbers of a call's line. A replay never gives an R number (A33), so that its lines are never used.
 abbrev pub printedStatus : Verdict → ℕ
 printedStatus Accepted = 0
 printedStatus (Refused (R number)) = number

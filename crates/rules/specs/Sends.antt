@@ -77,9 +77,9 @@ tickCount Powered = 0
 tickCount Other = 0
 
 -- how many ticks a history has
-abbrev pub ticks : History → ℕ
-ticks [] = 0
-ticks (x ∷ h) = tickCount (kindOf x) + ticks h
+abbrev pub ticksIn : History → ℕ
+ticksIn [] = 0
+ticksIn (x ∷ h) = tickCount (kindOf x) + ticksIn h
 
 -- one for a power cycle
 abbrev pub powerCount : Kind → ℕ

@@ -40,17 +40,17 @@ table =
     ∷ (23, row Freeze 2 0 4)
     ∷ []
 
--- the revisions are 1 and 2
+-- later than any revision that serves something
 abbrev never : ℕ
 never = 3
 
--- an index that the table lacks
+-- an index that the table lacks, to which status 1 comes first
 abbrev pub unserved : Row
 unserved = row-and-more Unserved never 0 4
 
 abbrev pub lookUp : ℕ → List (ℕ × Row) → Row
 lookUp index [] = unserved
-lookUp index (place ∷ places) = if index =? place .0 then place .1 else lookUp index places
+lookUp index (line ∷ lines) = if index =? line .0 then line .1 else lookUp index lines
 
 unfoldable pub rowOf : (index : ℕ) → Row
 rowOf index = lookUp index table
@@ -74,7 +74,7 @@ lengthCheck index request = not (fits? (rowOf index) request) gives Status 3 0
 -- "bit k for function k"
 abbrev pub bits : (revision : ℕ) → List (ℕ × Row) → ℕ
 bits revision [] = 0
-bits revision (place ∷ places) = bit (place .0) (served? revision (place .1)) + bits revision places
+bits revision (line ∷ lines) = bit (line .0) (served? revision (line .1)) + bits revision lines
 
 -- "Function 0 answers 4 bytes of mask": "revision 2 gives 05 F0 FB 00, revision 1 gives 05 00 00 00, any other gives four zeros."
 unfoldable pub mask : (revision : ℕ) → ℕ

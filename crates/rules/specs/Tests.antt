@@ -24,6 +24,6 @@ infix 25 _implies_ _unless_
 abbrev pub _implies_ : Bool → Bool → Bool
 a implies b = not a || b
 
--- where the second is not true, the first is
+-- where the second is not true, the first is. The page's "N unless X" in a function's checks is written `not X gives N`.
 abbrev pub _unless_ : Bool → Bool → Bool
 a unless b = b || a

@@ -1,7 +1,6 @@
 -- Document 01, "Thresholds".
 -- Assumes nothing.
 use Prim.Native.Nat.{ℕ, _%_}
-use mathlib.Core.Bool.{Bool}
 use mathlib.Core.List.{List, [], _∷_, _++_}
 use Rattle.rules.specs.Tests.{_<?_}
 use Rattle.rules.specs.Bytes.{le, numberAt, zeros}
@@ -17,6 +16,7 @@ pub data ThresholdCall : Type 0 where
 abbrev pub thresholdBytes : Thresholds → List ℕ
 thresholdBytes h = le 2 (h .enable) ++ le 1 (h .spare) ++ le 2 (h .media) ++ le 2 (h .controller)
 
+-- a Set's request: the same seven bytes
 abbrev pub setThresholdOf : (request : List ℕ) → ThresholdCall
 setThresholdOf request =
     SetThreshold (numberAt 2 0 request) (numberAt 1 2 request) (numberAt 2 3 request) (numberAt 2 5 request)

@@ -1,12 +1,12 @@
 -- Document 01, "A firmware transfer": Get FW Info, Start, Send, Finish, Query, the tick and the power cycle.
 -- Assumes nothing.
 use Prim.Native.Nat.{ℕ, _+_, _-_, _*_}
-use mathlib.Core.Bool.{Bool, not, _&&_, _||_}
+use mathlib.Core.Bool.{not, _&&_, _||_}
 use mathlib.Core.List.{List, [], _∷_, _++_}
 use lib.ListN.{length, take, drop}
 use Rattle.rules.specs.Tests.{if_then_else_, _<?_, _=?_}
 use Rattle.rules.specs.Bytes.{le, numberAt, zeros, splice}
-use Rattle.rules.specs.Numbers.{areaSize, longestPiece, verification, microseconds, lastContext}
+use Rattle.rules.specs.Numbers.{areaSize, longestPiece, verification, tickMicroseconds, lastContext}
 use Rattle.rules.specs.With.{_with-phase_, _with-contexts_, _with-received_, _with-ticks_, _with-running_, _with-staged_}
 use Rattle.rules.specs.Record.{_is_, current, live}
 use Rattle.rules.specs.Refusals.{Check, _gives_}
@@ -30,8 +30,8 @@ abbrev pub fwInfo : Transfer → List ℕ
 fwInfo t =
     le 4 areaSize
     ++ le 4 longestPiece
-    ++ le 4 microseconds
-    ++ le 4 (verification * microseconds)
+    ++ le 4 tickMicroseconds
+    ++ le 4 (verification * tickMicroseconds)
     ++ le 1 0
     ++ zeros 3
     ++ le 4 1
@@ -46,7 +46,7 @@ startChecks t =
     ∷ (t .contexts =? lastContext gives Status 8 0)
     ∷ []
 
--- "Else the next number is given, received is 0, phase Receiving;" "Numbers outlive power cycles and are never given again."
+-- "Else the next number is given, received is 0, phase Receiving;" "Numbers .. are never given again": `NeverAgain` in Demand.antt says it of histories.
 abbrev pub startChange : Transfer → Transfer
 startChange t = t with-contexts (t .contexts + 1) with-received 0 with-phase Receiving
 
@@ -144,7 +144,7 @@ transferArea (Query context) area = area
 abbrev pub receivedBytes : Transfer → (area : List ℕ) → List ℕ
 receivedBytes t area = take (t .received) area
 
--- "With 1: ticks left 0, and Staged with the image's version if the received bytes are a good image, else Failed."
+-- "With 1 [tick left]: ticks left 0, and Staged with the image's version if the received bytes are a good image, else Failed."
 abbrev pub verified : Transfer → Image → Transfer
 verified t (Good version) = t with-ticks 0 with-phase Staged with-staged version
 verified t Bad = t with-ticks 0 with-phase Failed
@@ -160,6 +160,6 @@ tickChange t area =
 abbrev pub runningAfter : Transfer → ℕ
 runningAfter t = if t .phase is Staged then t .staged else t .running
 
--- "Then in every case: Idle, received 0, ticks 0, staged version 0"; "Contexts .. stay."
+-- "Then in every case: Idle, received 0, ticks 0, staged version 0"; "Contexts .. stay." "Numbers outlive power cycles".
 abbrev pub transferPower : Transfer → Transfer
 transferPower t = t with-running (runningAfter t) with-phase Idle with-received 0 with-ticks 0 with-staged 0
