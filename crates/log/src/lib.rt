@@ -2,24 +2,10 @@
 ghost use mathlib.Core.Path.{_≡_};
 ghost use lib.ListN.{length};
 ghost use Rattle.rules.specs.Tests.{if_then_else_};
-ghost use Rattle.rules.specs.Bytes.{zeros?};
 ghost use Rattle.rules.specs.Log.{entryOf, goodCall, bare};
 ghost use Rattle.rules.specs.declared.Entry.the-variants.{Bad};
 ghost use Rattle.log.specs.Call.{callIn};
 use rules::Entry;
-
-// Every byte is zero. No byte ends the scan, so that the compiler takes many bytes at a time.
-fn blank(bytes: &[u8]) -> bool
-    ensures { λ r. ⌜ r ≡ zeros? (now (bytes .entry)) ⌝ }
-{
-    let mut zero = true;
-    let mut i = 0;
-    while i < bytes.len() {
-        zero = zero & (bytes[i] == 0);
-        i += 1;
-    }
-    zero
-}
 
 // The padding is scanned last, and only where the fields before it are good.
 fn good_call(bytes: &[u8]) -> bool
@@ -36,7 +22,7 @@ fn good_call(bytes: &[u8]) -> bool
         return false;
     }
     let end = 8 + size as usize;
-    blank(&bytes[end..])
+    base::all_zero(&bytes[end..])
 }
 
 fn decode_call(bytes: &[u8]) -> Entry
@@ -60,7 +46,7 @@ fn decode_bare(bytes: &[u8], entry: Entry) -> Entry
     requires { ⌜ length (now bytes) ≡ 544 ⌝ }
     ensures { λ r. ⌜ r ≡ (if bare (now (bytes .entry)) then entry else Bad) ⌝ }
 {
-    let zero = blank(&bytes[1..]);
+    let zero = base::all_zero(&bytes[1..]);
     if zero {
         return entry;
     }

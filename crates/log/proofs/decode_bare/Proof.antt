@@ -8,11 +8,11 @@ use Rattle.log.proofs.decode_bare.Tie as tie
 
 zero : tie.Need-returns
 zero c =
-    simp (← (c .before .blank .ensures ∙ ap zeros? (rest 1 (c .before .before .before .before .args .bytes .now))), c .if1 .taken)
+    simp (← (c .before .all-zero .ensures ∙ ap zeros? (rest 1 (c .before .before .before .before .args .bytes .now))), c .if1 .taken)
 
 not-zero : tie.Need-returns-2
 not-zero c =
-    simp (← (c .before .blank .ensures ∙ ap zeros? (rest 1 (c .before .before .before .before .args .bytes .now))), c .if1 .left)
+    simp (← (c .before .all-zero .ensures ∙ ap zeros? (rest 1 (c .before .before .before .before .args .bytes .now))), c .if1 .left)
 
 pub decode-bare-spec : {M : Type 1} → statement M
 decode-bare-spec =

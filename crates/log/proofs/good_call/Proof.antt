@@ -24,7 +24,7 @@ padding-decides c =
     let k = c .before .before .before in
     let host = k .before .before .byte in
     let bytes = k .before .before .before .before .args .bytes .now in
-    simp (← host .ensures, ← k .half .ensures, not-false ((1 ≤? host .result) && (host .result ≤? 4)) (k .before .if1 .left), le-leb _ 536 (c .before .before .if2 .left), c .blank .ensures ∙ ap zeros? (rest _ bytes))
+    simp (← host .ensures, ← k .half .ensures, not-false ((1 ≤? host .result) && (host .result ≤? 4)) (k .before .if1 .left), le-leb _ 536 (c .before .before .if2 .left), c .all-zero .ensures ∙ ap zeros? (rest _ bytes))
 
 pub good-call-spec : {M : Type 1} → statement M
 good-call-spec =
