@@ -5,6 +5,7 @@ ghost use mathlib.Core.Path.{_≡_};
 ghost use lib.ListN.{length};
 use files::Filled;
 use libc::STDIN_FILENO;
+use reader::Found;
 use rules::Device;
 use rules::Entry;
 
@@ -126,9 +127,8 @@ fn show_security(d: Device) -> bool {
         & show_bytes(b"passphrase ", &d.security.passphrase)
 }
 
-// One record is played on the module and its line written; the answer buffer comes as zeros.
-fn answer_record(number: u64, d: Device, area: &mut [u8], record: &[u8]) -> Device {
-    let entry = log::decode(record);
+// What a record says is played on the module and its line written; the answer buffer comes as zeros.
+fn answer_entry(number: u64, d: Device, area: &mut [u8], entry: Entry, record: &[u8]) -> Device {
     match entry {
         Entry::Call {
             host: _,
@@ -167,18 +167,36 @@ fn answer_record(number: u64, d: Device, area: &mut [u8], record: &[u8]) -> Devi
     }
 }
 
+// What the reader finds at a place: a record. What follows the records is told at the end of the log.
+fn answer_at(number: u64, d: Device, area: &mut [u8], log: &[u8], place: usize) -> Device
+    requires { ⌜ place ≤ 120 ⌝ }
+{
+    let stood = reader::read_at(log, place);
+    let found = stood.found;
+    match found {
+        Found::Record(entry) => {
+            let start = place * 544;
+            let end = start + 544;
+            if log.len() < end {
+                return d;
+            }
+            answer_entry(number, d, area, entry, &log[start..end])
+        }
+        Found::Short => d,
+        Found::End => d,
+    }
+}
+
 // The records of the front of a buffer.
 fn answer_part(buf: &[u8], have: usize, number: u64, d: Device, area: &mut [u8]) -> Device
-    requires { ⌜ (have ≤ 65280) × (have ≤ length (now buf)) ⌝ }
+    requires { ⌜ have ≤ 65280 ⌝ }
     requires { ⌜ number ≤ 9000000000000000000 ⌝ }
 {
     let count = have / 544;
     let mut device = d;
     let mut j = 0;
     while j < count {
-        let place = j * 544;
-        let end = place + 544;
-        device = answer_record(number + j as u64, device, area, &buf[place..end]);
+        device = answer_at(number + j as u64, device, area, buf, j);
         j += 1;
     }
     device
