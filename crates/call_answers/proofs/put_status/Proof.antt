@@ -6,27 +6,13 @@ use borrow.Author.Needs.{needs}
 use Rattle.call_answers.proofs.put_status.Statement.{statement}
 use Rattle.call_answers.proofs.put_status.Tie as tie
 
-put-at-requires : tie.Need-put-at-requires
-put-at-requires c κs = search needs
-
-put-at-requires-2 : tie.Need-put-at-requires-2
-put-at-requires-2 c κs = search needs
-
-sub-put-at : tie.Need-sub-put-at
-sub-put-at c = search needs
-
-put-at-requires-3 : tie.Need-put-at-requires-3
-put-at-requires-3 c κs = search needs
-
-same-length : tie.Need-same-length
-same-length c = search needs
-
 returns : tie.Need-returns
 returns c =
     let a = c .before .before .before .before .before .before .before .before .before .before .before .before .before .args in
     status-written (a .status) (a .ext) (a .size - 4) (a .answer .now) (c .before .before .before .before .before .before .before .before .before .before .put-at .ensures) (c .before .before .before .before .before .before .put-at2 .ensures) (c .before .before .put-at3 .ensures)
 
+-- by search: put-at-requires, put-at-requires-2, sub-put-at, put-at-requires-3, same-length
 pub put-status-spec : {M : Type 1} → statement M
 put-status-spec =
     tie.close
-    (tie.spec put-at-requires put-at-requires-2 sub-put-at put-at-requires-3 same-length returns)
+    (tie.spec (λ c κs. search needs) (λ c κs. search needs) (λ c. search needs) (λ c κs. search needs) (λ c. search needs) returns)

@@ -17,46 +17,19 @@ use Rattle.call_changes.proofs.change.Tie as tie
 enum-told : tie.Need-enum-told
 enum-told c = search needs
 
-enum-told-2 : tie.Need-enum-told-2
-enum-told-2 c = search needs
-
-enum-told-3 : tie.Need-enum-told-3
-enum-told-3 c = search needs
-
-enum-told-4 : tie.Need-enum-told-4
-enum-told-4 c = search needs
-
 start-requires : tie.Need-start-requires
 start-requires c κs = let k = c .before .before .before .before in passed (k .args .d) (k .args .revision) (k .args .request .now) (c .enum-told4 .given .1) (k .pre .1 .1)
-
-enum-told-5 : tie.Need-enum-told-5
-enum-told-5 c = search needs
 
 send-requires : tie.Need-send-requires
 send-requires c κs =
     let k = c .before .before .before .before .before in
     (k .pre .0, (there (length (k .args .request .now)) (c .before .enum-told5 .given .1) (k .pre .1 .0), passed (k .args .d) (k .args .revision) (k .args .request .now) (c .before .enum-told5 .given .1) (k .pre .1 .1)))
 
-enum-told-6 : tie.Need-enum-told-6
-enum-told-6 c = search needs
-
 finish-requires : tie.Need-finish-requires
 finish-requires c κs = let k = c .before .before .before .before in there (length (k .args .request .now)) (c .enum-told6 .given .1) (k .pre .1 .0)
 
-enum-told-7 : tie.Need-enum-told-7
-enum-told-7 c = search needs
-
-enum-told-8 : tie.Need-enum-told-8
-enum-told-8 c = search needs
-
 set-requires : tie.Need-set-requires
 set-requires c κs = let k = c .before .before .before .before in there (length (k .args .request .now)) (c .enum-told8 .given .1) (k .pre .1 .0)
-
-enum-told-9 : tie.Need-enum-told-9
-enum-told-9 c = search needs
-
-enum-told-10 : tie.Need-enum-told-10
-enum-told-10 c = search needs
 
 sub-set-passphrase : tie.Need-sub-set-passphrase
 sub-set-passphrase c = let k = c .before .before .before .before in let h = there (length (k .args .request .now)) (c .enum-told10 .given .1) (k .pre .1 .0) in omega arith
@@ -64,35 +37,11 @@ sub-set-passphrase c = let k = c .before .before .before .before in let h = ther
 part-set-passphrase-start : tie.Need-part-set-passphrase-start
 part-set-passphrase-start c = let k = c .before .before .before .before in let h = there (length (k .args .request .now)) (c .enum-told10 .given .1) (k .pre .1 .0) in omega arith
 
-part-set-passphrase-end : tie.Need-part-set-passphrase-end
-part-set-passphrase-end c = search needs
-
 set-passphrase-requires : tie.Need-set-passphrase-requires
 set-passphrase-requires c κs =
     let k = c .before .before .before .before .before in
     let h = there (length (k .args .request .now)) (c .before .enum-told10 .given .1) (k .pre .1 .0) in
     rw (rest 32 (k .args .request .now), length-drop) (omega arith)
-
-enum-told-11 : tie.Need-enum-told-11
-enum-told-11 c = search needs
-
-disable-requires : tie.Need-disable-requires
-disable-requires c κs = search needs
-
-enum-told-12 : tie.Need-enum-told-12
-enum-told-12 c = search needs
-
-unlock-requires : tie.Need-unlock-requires
-unlock-requires c κs = search needs
-
-enum-told-13 : tie.Need-enum-told-13
-enum-told-13 c = search needs
-
-freeze-requires : tie.Need-freeze-requires
-freeze-requires c κs = search needs
-
-enum-told-14 : tie.Need-enum-told-14
-enum-told-14 c = search needs
 
 returns : tie.Need-returns
 returns c = let a = c .before .before .before .before .args in changed (a .d) (a .revision) (a .request .now) (a .area .now) (c .enum-told .given .1) refl refl
@@ -107,9 +56,6 @@ returns-4 : tie.Need-returns-4
 returns-4 c =
     let a = c .before .before .before .before .before .before .before .args in
     changed (a .d) (a .revision) (a .request .now) (a .area .now) (c .before .before .before .enum-told4 .given .1) (ap (λ (x : Transfer). a .d with-transfer x) (c .before .before .start .ensures)) refl
-
-same-length : tie.Need-same-length
-same-length c = search needs
 
 returns-5 : tie.Need-returns-5
 returns-5 c =
@@ -157,40 +103,42 @@ returns-13 c =
 returns-14 : tie.Need-returns-14
 returns-14 c = let a = c .before .before .before .before .args in changed (a .d) (a .revision) (a .request .now) (a .area .now) (c .enum-told14 .given .1) refl refl
 
+-- by search: enum-told-2, enum-told-3, enum-told-4, enum-told-5, enum-told-6, enum-told-7, enum-told-8, enum-told-9, enum-told-10,
+-- part-set-passphrase-end, enum-told-11, disable-requires, enum-told-12, unlock-requires, enum-told-13, freeze-requires, enum-told-14, same-length
 pub change-spec : {M : Type 1} → statement M
 change-spec =
     tie.close
     (tie.spec
     enum-told
-    enum-told-2
-    enum-told-3
-    enum-told-4
+    (λ c. search needs)
+    (λ c. search needs)
+    (λ c. search needs)
     start-requires
-    enum-told-5
+    (λ c. search needs)
     send-requires
-    enum-told-6
+    (λ c. search needs)
     finish-requires
-    enum-told-7
-    enum-told-8
+    (λ c. search needs)
+    (λ c. search needs)
     set-requires
-    enum-told-9
-    enum-told-10
+    (λ c. search needs)
+    (λ c. search needs)
     sub-set-passphrase
     part-set-passphrase-start
-    part-set-passphrase-end
+    (λ c. search needs)
     set-passphrase-requires
-    enum-told-11
-    disable-requires
-    enum-told-12
-    unlock-requires
-    enum-told-13
-    freeze-requires
-    enum-told-14
+    (λ c. search needs)
+    (λ c κs. search needs)
+    (λ c. search needs)
+    (λ c κs. search needs)
+    (λ c. search needs)
+    (λ c κs. search needs)
+    (λ c. search needs)
     returns
     returns-2
     returns-3
     returns-4
-    same-length
+    (λ c. search needs)
     returns-5
     returns-6
     returns-7

@@ -13,77 +13,23 @@ use Rattle.call_checks.proofs.judge_function.Tie as tie
 enum-told : tie.Need-enum-told
 enum-told c = search needs
 
-enum-told-2 : tie.Need-enum-told-2
-enum-told-2 c = search needs
-
-enum-told-3 : tie.Need-enum-told-3
-enum-told-3 c = search needs
-
-enum-told-4 : tie.Need-enum-told-4
-enum-told-4 c = search needs
-
-judge-start-requires : tie.Need-judge-start-requires
-judge-start-requires c κs = search needs
-
-enum-told-5 : tie.Need-enum-told-5
-enum-told-5 c = search needs
-
 judge-send-requires : tie.Need-judge-send-requires
 judge-send-requires c κs = let k = c .before .before .before in there (length (k .args .request .now)) (c .enum-told5 .given .1) (k .pre)
-
-enum-told-6 : tie.Need-enum-told-6
-enum-told-6 c = search needs
 
 judge-finish-requires : tie.Need-judge-finish-requires
 judge-finish-requires c κs = let k = c .before .before .before in there (length (k .args .request .now)) (c .enum-told6 .given .1) (k .pre)
 
-enum-told-7 : tie.Need-enum-told-7
-enum-told-7 c = search needs
-
 judge-query-requires : tie.Need-judge-query-requires
 judge-query-requires c κs = let k = c .before .before .before in there (length (k .args .request .now)) (c .enum-told7 .given .1) (k .pre)
 
-enum-told-8 : tie.Need-enum-told-8
-enum-told-8 c = search needs
-
 judge-set-requires : tie.Need-judge-set-requires
 judge-set-requires c κs = let k = c .before .before .before in there (length (k .args .request .now)) (c .enum-told8 .given .1) (k .pre)
-
-enum-told-9 : tie.Need-enum-told-9
-enum-told-9 c = search needs
-
-enum-told-10 : tie.Need-enum-told-10
-enum-told-10 c = search needs
 
 slice-aggregate-judge-set-passphrase : tie.Need-slice-aggregate-judge-set-passphrase
 slice-aggregate-judge-set-passphrase c =
     let k = c .before .before .before .before in
     let h = there (length (k .args .request .now)) (c .before .enum-told10 .given .1) (k .pre) in
     sym (length-take-le 32 (k .args .request .now) (omega arith))
-
-judge-set-passphrase-requires : tie.Need-judge-set-passphrase-requires
-judge-set-passphrase-requires c κs = search needs
-
-enum-told-11 : tie.Need-enum-told-11
-enum-told-11 c = search needs
-
-judge-disable-requires : tie.Need-judge-disable-requires
-judge-disable-requires c κs = search needs
-
-enum-told-12 : tie.Need-enum-told-12
-enum-told-12 c = search needs
-
-judge-unlock-requires : tie.Need-judge-unlock-requires
-judge-unlock-requires c κs = search needs
-
-enum-told-13 : tie.Need-enum-told-13
-enum-told-13 c = search needs
-
-judge-freeze-requires : tie.Need-judge-freeze-requires
-judge-freeze-requires c κs = search needs
-
-enum-told-14 : tie.Need-enum-told-14
-enum-told-14 c = search needs
 
 returns : tie.Need-returns
 unfolding verdict
@@ -132,34 +78,37 @@ returns-14 : tie.Need-returns-14
 unfolding verdict
 returns-14 c = let a = c .before .before .before .args in judged (a .d) (a .revision) (a .request .now) (c .enum-told14 .given .1) refl
 
+-- by search: enum-told-2, enum-told-3, enum-told-4, judge-start-requires, enum-told-5, enum-told-6, enum-told-7, enum-told-8, enum-told-9,
+-- enum-told-10, judge-set-passphrase-requires, enum-told-11, judge-disable-requires, enum-told-12, judge-unlock-requires, enum-told-13,
+-- judge-freeze-requires, enum-told-14
 pub judge-function-spec : {M : Type 1} → statement M
 judge-function-spec =
     tie.close
     (tie.spec
     enum-told
-    enum-told-2
-    enum-told-3
-    enum-told-4
-    judge-start-requires
-    enum-told-5
+    (λ c. search needs)
+    (λ c. search needs)
+    (λ c. search needs)
+    (λ c κs. search needs)
+    (λ c. search needs)
     judge-send-requires
-    enum-told-6
+    (λ c. search needs)
     judge-finish-requires
-    enum-told-7
+    (λ c. search needs)
     judge-query-requires
-    enum-told-8
+    (λ c. search needs)
     judge-set-requires
-    enum-told-9
-    enum-told-10
+    (λ c. search needs)
+    (λ c. search needs)
     slice-aggregate-judge-set-passphrase
-    judge-set-passphrase-requires
-    enum-told-11
-    judge-disable-requires
-    enum-told-12
-    judge-unlock-requires
-    enum-told-13
-    judge-freeze-requires
-    enum-told-14
+    (λ c κs. search needs)
+    (λ c. search needs)
+    (λ c κs. search needs)
+    (λ c. search needs)
+    (λ c κs. search needs)
+    (λ c. search needs)
+    (λ c κs. search needs)
+    (λ c. search needs)
     returns
     returns-2
     returns-3

@@ -17,17 +17,8 @@ returns : tie.Need-returns
 unfolding verdict
 returns c = simp (c .if1 .taken)
 
-judge-event-requires : tie.Need-judge-event-requires
-judge-event-requires c κs = search needs
-
-enum-known-event : tie.Need-enum-known-event
-enum-known-event c = search needs
-
 enum-told : tie.Need-enum-told
 enum-told c = search needs
-
-judge-table-requires : tie.Need-judge-table-requires
-judge-table-requires c κs = search needs
 
 returns-2 : tie.Need-returns-2
 returns-2 c =
@@ -43,14 +34,15 @@ returns-3 c =
     decides (eventChecks (a .d) (a .area .now)) rows (sym (c .before .before .before .judge-event .ensures) ∙ c .before .enum-told .given .1) (c .judge-table .ensures)
     ∙ sym (passed-by (length (a .answer .now) <? 64) (R 1) (eventChecks (a .d) (a .area .now) ++ rows) (c .before .before .before .before .if1 .left))
 
+-- by search: judge-event-requires, enum-known-event, judge-table-requires
 pub judge-gate-spec : {M : Type 1} → statement M
 judge-gate-spec =
     tie.close
     (tie.spec
     returns
-    judge-event-requires
-    enum-known-event
+    (λ c κs. search needs)
+    (λ c. search needs)
     enum-told
-    judge-table-requires
+    (λ c κs. search needs)
     returns-2
     returns-3)

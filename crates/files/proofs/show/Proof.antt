@@ -5,35 +5,18 @@ use borrow.Author.Needs.{needs}
 use Rattle.files.proofs.show.Statement.{statement}
 use Rattle.files.proofs.show.Tie as tie
 
-returns : tie.Need-returns
-returns c = search needs
-
 slice-aggregate-write-all : tie.Need-slice-aggregate-write-all
 slice-aggregate-write-all c = front _ _ (search needs)
 
-write-all-requires : tie.Need-write-all-requires
-write-all-requires c κs = search needs
-
-slice-aggregate-fail : tie.Need-slice-aggregate-fail
-slice-aggregate-fail c = search needs
-
-fail-requires : tie.Need-fail-requires
-fail-requires c κs = search needs
-
-returns-2 : tie.Need-returns-2
-returns-2 c = search needs
-
-returns-3 : tie.Need-returns-3
-returns-3 c = search needs
-
+-- by search: returns, write-all-requires, slice-aggregate-fail, fail-requires, returns-2, returns-3
 pub show-spec : {M : Type 1} → statement M
 show-spec =
     tie.close
     (tie.spec
-    returns
+    (λ c. search needs)
     slice-aggregate-write-all
-    write-all-requires
-    slice-aggregate-fail
-    fail-requires
-    returns-2
-    returns-3)
+    (λ c κs. search needs)
+    (λ c. search needs)
+    (λ c κs. search needs)
+    (λ c. search needs)
+    (λ c. search needs))

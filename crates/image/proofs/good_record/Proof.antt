@@ -5,26 +5,11 @@ use Rattle.image.proofs.Laws.{bad-field-decides, sum-decides}
 use Rattle.image.proofs.good_record.Statement.{statement}
 use Rattle.image.proofs.good_record.Tie as tie
 
-half-requires : tie.Need-half-requires
-half-requires c κs = search needs
-
-half-requires-2 : tie.Need-half-requires-2
-half-requires-2 c κs = search needs
-
-long-requires : tie.Need-long-requires
-long-requires c κs = search needs
-
 returns : tie.Need-returns
 returns c =
     let k = c .before in
     let bad = not-true _ (c .if1 .taken) in
     bad-field-decides _ _ _ _ (k .before .before .half .ensures) (k .before .half2 .ensures) (k .long .ensures) bad
-
-word-requires : tie.Need-word-requires
-word-requires c κs = search needs
-
-sum-requires : tie.Need-sum-requires
-sum-requires c κs = search needs
 
 returns-2 : tie.Need-returns-2
 returns-2 c =
@@ -33,14 +18,15 @@ returns-2 c =
     sum-decides _ _ _ _ (k .before .before .half .ensures) (k .before .half2 .ensures) (k .long .ensures)
     good (c .before .word .ensures) (c .sum .ensures)
 
+-- by search: half-requires, half-requires-2, long-requires, word-requires, sum-requires
 pub good-record-spec : {M : Type 1} → statement M
 good-record-spec =
     tie.close
     (tie.spec
-    half-requires
-    half-requires-2
-    long-requires
+    (λ c κs. search needs)
+    (λ c κs. search needs)
+    (λ c κs. search needs)
     returns
-    word-requires
-    sum-requires
+    (λ c κs. search needs)
+    (λ c κs. search needs)
     returns-2)

@@ -22,38 +22,11 @@ loop-holds c =
     let a = c .before .args in
     (search needs, ap (λ (left : ℕ). goodRecords left 0 a.n a.version a.bytes.now) (sub-zero a.n))
 
-cast-at : tie.Need-cast-at Inv-loop μ-loop
-cast-at c = search needs
-
-mul-at : tie.Need-mul-at Inv-loop μ-loop
-mul-at c = search needs
-
-add-end : tie.Need-add-end Inv-loop μ-loop
-add-end c = search needs
-
-sub-good-record : tie.Need-sub-good-record Inv-loop μ-loop
-sub-good-record c = search needs
-
-part-good-record-start : tie.Need-part-good-record-start Inv-loop μ-loop
-part-good-record-start c = search needs
-
-part-good-record-end : tie.Need-part-good-record-end Inv-loop μ-loop
-part-good-record-end c = search needs
-
-good-record-requires : tie.Need-good-record-requires Inv-loop μ-loop
-good-record-requires c κs = search needs
-
 returns : tie.Need-returns Inv-loop μ-loop
 returns c =
     let bad = sym (c .before .good-record .ensures) ∙ not-true _ (c .if1 .taken) in
     let k = c .before .before .before in
     bad-record-decides _ _ _ _ (k .before .loop .inv .1) (k .loop-test .taken) bad
-
-add-i : tie.Need-add-i Inv-loop μ-loop
-add-i c = search needs
-
-loop-less : tie.Need-loop-less Inv-loop μ-loop
-loop-less c = search needs
 
 loop-again : tie.Need-loop-again Inv-loop μ-loop
 loop-again c =
@@ -64,6 +37,7 @@ loop-again c =
 returns-2 : tie.Need-returns-2 Inv-loop μ-loop
 returns-2 c = no-record-left _ _ _ _ (c .before .loop .inv .1) (c .loop-test .left)
 
+-- by search: cast-at, mul-at, add-end, sub-good-record, part-good-record-start, part-good-record-end, good-record-requires, add-i, loop-less
 pub good-records-spec : {M : Type 1} → statement M
 good-records-spec =
     tie.close
@@ -71,15 +45,15 @@ good-records-spec =
     Inv-loop
     μ-loop
     loop-holds
-    cast-at
-    mul-at
-    add-end
-    sub-good-record
-    part-good-record-start
-    part-good-record-end
-    good-record-requires
+    (λ c. search needs)
+    (λ c. search needs)
+    (λ c. search needs)
+    (λ c. search needs)
+    (λ c. search needs)
+    (λ c. search needs)
+    (λ c κs. search needs)
     returns
-    add-i
-    loop-less
+    (λ c. search needs)
+    (λ c. search needs)
     loop-again
     returns-2)

@@ -18,21 +18,6 @@ loop-holds : tie.Need-loop-holds Inv-loop μ-loop
 unfolding sumOfWords
 loop-holds c = search needs
 
-mul-at : tie.Need-mul-at Inv-loop μ-loop
-mul-at c = search needs
-
-word-requires : tie.Need-word-requires Inv-loop μ-loop
-word-requires c κs = search needs
-
-wrapping-add-u32-requires : tie.Need-wrapping-add-u32-requires Inv-loop μ-loop
-wrapping-add-u32-requires c κs = search needs
-
-add-word : tie.Need-add-word Inv-loop μ-loop
-add-word c = search needs
-
-loop-less : tie.Need-loop-less Inv-loop μ-loop
-loop-less c = search needs
-
 loop-again : tie.Need-loop-again Inv-loop μ-loop
 loop-again c =
     let k = c .before .before .before in
@@ -44,6 +29,7 @@ returns c =
     let all : c .before .loop .word ≡ 31 = omega arith in
     rw all at (c .before .loop .inv .1)
 
+-- by search: mul-at, word-requires, wrapping-add-u32-requires, add-word, loop-less
 pub sum-spec : {M : Type 1} → statement M
 sum-spec =
     tie.close
@@ -51,10 +37,10 @@ sum-spec =
     Inv-loop
     μ-loop
     loop-holds
-    mul-at
-    word-requires
-    wrapping-add-u32-requires
-    add-word
-    loop-less
+    (λ c. search needs)
+    (λ c κs. search needs)
+    (λ c κs. search needs)
+    (λ c. search needs)
+    (λ c. search needs)
     loop-again
     returns)

@@ -10,27 +10,6 @@ use borrow.Author.Needs.{needs}
 use Rattle.reader.proofs.stood_at.Statement.{statement}
 use Rattle.reader.proofs.stood_at.Tie as tie
 
-mul-start : tie.Need-mul-start
-mul-start c = search needs
-
-add-end : tie.Need-add-end
-add-end c = search needs
-
-sub-decode : tie.Need-sub-decode
-sub-decode c = search needs
-
-part-decode-start : tie.Need-part-decode-start
-part-decode-start c = search needs
-
-part-decode-end : tie.Need-part-decode-end
-part-decode-end c = search needs
-
-decode-requires : tie.Need-decode-requires
-decode-requires c κs = search needs
-
-add-t15 : tie.Need-add-t15
-add-t15 c = search needs
-
 returns : tie.Need-returns
 returns c =
     let a = c .before .before .before .before .args in
@@ -51,17 +30,18 @@ returns-3 c =
     let a = c .before .before .before .args in
     sym (at-end (a .log .now) (a .place) (c .before .if1 .left) (c .if2 .left))
 
+-- by search: mul-start, add-end, sub-decode, part-decode-start, part-decode-end, decode-requires, add-t15
 pub stood-at-spec : {M : Type 1} → statement M
 stood-at-spec =
     tie.close
     (tie.spec
-    mul-start
-    add-end
-    sub-decode
-    part-decode-start
-    part-decode-end
-    decode-requires
-    add-t15
+    (λ c. search needs)
+    (λ c. search needs)
+    (λ c. search needs)
+    (λ c. search needs)
+    (λ c. search needs)
+    (λ c κs. search needs)
+    (λ c. search needs)
     returns
     add-t19
     returns-2

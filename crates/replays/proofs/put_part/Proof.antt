@@ -16,25 +16,14 @@ put-lines-requires c κs =
     let long = length-take-le (k .args .have) (k .args .buf .now) (k .pre .0 .1) in
     (rw long (omega (arith, k .pre .0, k .pre .1 .1 .0)), (rw long (omega (arith, k .pre .0 .0, k .pre .1 .0)), k .pre .1 .1 .1))
 
-same-length : tie.Need-same-length
-same-length c = search needs
-
-same-length-2 : tie.Need-same-length-2
-same-length-2 c = search needs
-
-same-length-3 : tie.Need-same-length-3
-same-length-3 c = search needs
-
-returns : tie.Need-returns
-returns c = search needs
-
+-- by search: same-length, same-length-2, same-length-3, returns
 pub put-part-spec : {M : Type 1} → statement M
 put-part-spec =
     tie.close
     (tie.spec
     slice-aggregate-put-lines
     put-lines-requires
-    same-length
-    same-length-2
-    same-length-3
-    returns)
+    (λ c. search needs)
+    (λ c. search needs)
+    (λ c. search needs)
+    (λ c. search needs))

@@ -6,22 +6,11 @@ use borrow.Author.Needs.{needs}
 use Rattle.thresholds.proofs.set.Statement.{statement}
 use Rattle.thresholds.proofs.set.Tie as tie
 
-half-requires : tie.Need-half-requires
-half-requires c κs = search needs
-
-byte-requires : tie.Need-byte-requires
-byte-requires c κs = search needs
-
-half-requires-2 : tie.Need-half-requires-2
-half-requires-2 c κs = search needs
-
-half-requires-3 : tie.Need-half-requires-3
-half-requires-3 c κs = search needs
-
 returns : tie.Need-returns
 returns c =
     let q = c .before .before .before .before .before .args .request .now in
     simp (c .before .before .before .half .ensures, c .before .before .byte .ensures, c .before .half2 .ensures, c .half3 .ensures, and-mask (numberAt 2 0 q) 3)
 
+-- by search: half-requires, byte-requires, half-requires-2, half-requires-3
 pub set-spec : {M : Type 1} → statement M
-set-spec = tie.close (tie.spec half-requires byte-requires half-requires-2 half-requires-3 returns)
+set-spec = tie.close (tie.spec (λ c κs. search needs) (λ c κs. search needs) (λ c κs. search needs) (λ c κs. search needs) returns)

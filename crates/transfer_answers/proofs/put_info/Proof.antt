@@ -9,57 +9,6 @@ use borrow.Author.Needs.{needs}
 use Rattle.transfer_answers.proofs.put_info.Statement.{statement}
 use Rattle.transfer_answers.proofs.put_info.Tie as tie
 
-slice-aggregate-put-at : tie.Need-slice-aggregate-put-at
-slice-aggregate-put-at c = search needs
-
-put-at-requires : tie.Need-put-at-requires
-put-at-requires c κs = search needs
-
-slice-aggregate-put-at-2 : tie.Need-slice-aggregate-put-at-2
-slice-aggregate-put-at-2 c = search needs
-
-put-at-requires-2 : tie.Need-put-at-requires-2
-put-at-requires-2 c κs = search needs
-
-slice-aggregate-put-at-3 : tie.Need-slice-aggregate-put-at-3
-slice-aggregate-put-at-3 c = search needs
-
-put-at-requires-3 : tie.Need-put-at-requires-3
-put-at-requires-3 c κs = search needs
-
-slice-aggregate-put-at-4 : tie.Need-slice-aggregate-put-at-4
-slice-aggregate-put-at-4 c = search needs
-
-put-at-requires-4 : tie.Need-put-at-requires-4
-put-at-requires-4 c κs = search needs
-
-slice-aggregate-put-at-5 : tie.Need-slice-aggregate-put-at-5
-slice-aggregate-put-at-5 c = search needs
-
-put-at-requires-5 : tie.Need-put-at-requires-5
-put-at-requires-5 c κs = search needs
-
-slice-aggregate-put-at-6 : tie.Need-slice-aggregate-put-at-6
-slice-aggregate-put-at-6 c = search needs
-
-put-at-requires-6 : tie.Need-put-at-requires-6
-put-at-requires-6 c κs = search needs
-
-slice-aggregate-put-at-7 : tie.Need-slice-aggregate-put-at-7
-slice-aggregate-put-at-7 c = search needs
-
-put-at-requires-7 : tie.Need-put-at-requires-7
-put-at-requires-7 c κs = search needs
-
-slice-aggregate-copy : tie.Need-slice-aggregate-copy
-slice-aggregate-copy c = search needs
-
-copy-requires : tie.Need-copy-requires
-copy-requires c κs = search needs
-
-same-length : tie.Need-same-length
-same-length c = search needs
-
 returns : tie.Need-returns
 returns c =
     let k = c .before .before in
@@ -72,25 +21,28 @@ returns c =
     (info-built (o .before .before .before .args .t) (o .put-at .ensures) (n .before .before .before .put-at2 .ensures) (n .put-at3 .ensures) (m .before .before .before .put-at4 .ensures)
     (m .put-at5 .ensures) (l .before .before .before .put-at6 .ensures) (l .put-at7 .ensures))
 
+-- by search: slice-aggregate-put-at, put-at-requires, slice-aggregate-put-at-2, put-at-requires-2, slice-aggregate-put-at-3, put-at-requires-3,
+-- slice-aggregate-put-at-4, put-at-requires-4, slice-aggregate-put-at-5, put-at-requires-5, slice-aggregate-put-at-6, put-at-requires-6,
+-- slice-aggregate-put-at-7, put-at-requires-7, slice-aggregate-copy, copy-requires, same-length
 pub put-info-spec : {M : Type 1} → statement M
 put-info-spec =
     tie.close
     (tie.spec
-    slice-aggregate-put-at
-    put-at-requires
-    slice-aggregate-put-at-2
-    put-at-requires-2
-    slice-aggregate-put-at-3
-    put-at-requires-3
-    slice-aggregate-put-at-4
-    put-at-requires-4
-    slice-aggregate-put-at-5
-    put-at-requires-5
-    slice-aggregate-put-at-6
-    put-at-requires-6
-    slice-aggregate-put-at-7
-    put-at-requires-7
-    slice-aggregate-copy
-    copy-requires
-    same-length
+    (λ c. search needs)
+    (λ c κs. search needs)
+    (λ c. search needs)
+    (λ c κs. search needs)
+    (λ c. search needs)
+    (λ c κs. search needs)
+    (λ c. search needs)
+    (λ c κs. search needs)
+    (λ c. search needs)
+    (λ c κs. search needs)
+    (λ c. search needs)
+    (λ c κs. search needs)
+    (λ c. search needs)
+    (λ c κs. search needs)
+    (λ c. search needs)
+    (λ c κs. search needs)
+    (λ c. search needs)
     returns)

@@ -4,31 +4,17 @@ use borrow.Author.Needs.{needs}
 use Rattle.transfer_answers.proofs.put_queried.Statement.{statement}
 use Rattle.transfer_answers.proofs.put_queried.Tie as tie
 
-slice-aggregate-put-at : tie.Need-slice-aggregate-put-at
-slice-aggregate-put-at c = search needs
-
-put-at-requires : tie.Need-put-at-requires
-put-at-requires c κs = search needs
-
-slice-aggregate-copy : tie.Need-slice-aggregate-copy
-slice-aggregate-copy c = search needs
-
-copy-requires : tie.Need-copy-requires
-copy-requires c κs = search needs
-
-same-length : tie.Need-same-length
-same-length c = search needs
-
 returns : tie.Need-returns
 returns c = simp (c .before .before .before .before .before .before .put-at .ensures, c .before .before .copy .ensures)
 
+-- by search: slice-aggregate-put-at, put-at-requires, slice-aggregate-copy, copy-requires, same-length
 pub put-queried-spec : {M : Type 1} → statement M
 put-queried-spec =
     tie.close
     (tie.spec
-    slice-aggregate-put-at
-    put-at-requires
-    slice-aggregate-copy
-    copy-requires
-    same-length
+    (λ c. search needs)
+    (λ c κs. search needs)
+    (λ c. search needs)
+    (λ c κs. search needs)
+    (λ c. search needs)
     returns)

@@ -5,15 +5,6 @@ use borrow.Author.Needs.{needs}
 use Rattle.transfer_checks.proofs.judge_finish.Statement.{statement}
 use Rattle.transfer_checks.proofs.judge_finish.Tie as tie
 
-phase-number-requires : tie.Need-phase-number-requires
-phase-number-requires c κs = search needs
-
-byte-requires : tie.Need-byte-requires
-byte-requires c κs = search needs
-
-word-requires : tie.Need-word-requires
-word-requires c κs = search needs
-
 returns : tie.Need-returns
 unfolding verdict
 returns c = simp (← c .before .before .before .before .phase-number .ensures, ← c .before .before .before .byte .ensures, ← c .before .before .word .ensures, c .if1 .taken)
@@ -30,13 +21,14 @@ returns-4 : tie.Need-returns-4
 unfolding verdict
 returns-4 c = simp (← c .before .before .before .before .before .before .phase-number .ensures, ← c .before .before .before .before .before .byte .ensures, ← c .before .before .before .before .word .ensures, c .before .before .if1 .left, c .before .if2 .left, c .if3 .left)
 
+-- by search: phase-number-requires, byte-requires, word-requires
 pub judge-finish-spec : {M : Type 1} → statement M
 judge-finish-spec =
     tie.close
     (tie.spec
-    phase-number-requires
-    byte-requires
-    word-requires
+    (λ c κs. search needs)
+    (λ c κs. search needs)
+    (λ c κs. search needs)
     returns
     returns-2
     returns-3

@@ -6,33 +6,6 @@ use borrow.Author.Needs.{needs}
 use Rattle.transfer_checks.proofs.judge_send.Statement.{statement}
 use Rattle.transfer_checks.proofs.judge_send.Tie as tie
 
-phase-number-requires : tie.Need-phase-number-requires
-phase-number-requires c κs = search needs
-
-word-requires : tie.Need-word-requires
-word-requires c κs = search needs
-
-word-requires-2 : tie.Need-word-requires-2
-word-requires-2 c κs = search needs
-
-word-requires-3 : tie.Need-word-requires-3
-word-requires-3 c κs = search needs
-
-sub-follows : tie.Need-sub-follows
-sub-follows c = search needs
-
-cast-end : tie.Need-cast-end
-cast-end c = search needs
-
-cast-end-2 : tie.Need-cast-end-2
-cast-end-2 c = search needs
-
-add-end : tie.Need-add-end
-add-end c = search needs
-
-cast-wrong : tie.Need-cast-wrong
-cast-wrong c = search needs
-
 returns : tie.Need-returns
 unfolding verdict
 returns c = simp (length-drop, ← c .before .before .before .before .before .before .phase-number .ensures, ← c .before .before .before .before .before .word .ensures, ← c .before .before .before .before .word2 .ensures, ← c .before .before .before .word3 .ensures, c .if1 .taken)
@@ -49,19 +22,20 @@ returns-4 : tie.Need-returns-4
 unfolding verdict
 returns-4 c = simp (length-drop, ← c .before .before .before .before .before .before .before .before .phase-number .ensures, ← c .before .before .before .before .before .before .before .word .ensures, ← c .before .before .before .before .before .before .word2 .ensures, ← c .before .before .before .before .before .word3 .ensures, c .before .before .if1 .left, c .before .if2 .left, c .if3 .left)
 
+-- by search: phase-number-requires, word-requires, word-requires-2, word-requires-3, sub-follows, cast-end, cast-end-2, add-end, cast-wrong
 pub judge-send-spec : {M : Type 1} → statement M
 judge-send-spec =
     tie.close
     (tie.spec
-    phase-number-requires
-    word-requires
-    word-requires-2
-    word-requires-3
-    sub-follows
-    cast-end
-    cast-end-2
-    add-end
-    cast-wrong
+    (λ c κs. search needs)
+    (λ c κs. search needs)
+    (λ c κs. search needs)
+    (λ c κs. search needs)
+    (λ c. search needs)
+    (λ c. search needs)
+    (λ c. search needs)
+    (λ c. search needs)
+    (λ c. search needs)
     returns
     returns-2
     returns-3

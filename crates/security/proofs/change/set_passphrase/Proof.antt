@@ -10,21 +10,13 @@ use borrow.Author.Needs.{needs}
 use Rattle.security.proofs.change.set_passphrase.Statement.{statement}
 use Rattle.security.proofs.change.set_passphrase.Tie as tie
 
-slice-aggregate-copy : tie.Need-slice-aggregate-copy
-slice-aggregate-copy c = search needs
-
-copy-requires : tie.Need-copy-requires
-copy-requires c κs = search needs
-
-right-requires : tie.Need-right-requires
-right-requires c κs = search needs
-
 returns : tie.Need-returns
 returns c =
     let a = c .before .before .before .before .before .args in
     let copied = c .before .before .copy .ensures ∙ copy-whole (a .new .now) (replicate 32 0) (omega (arith, c .before .before .before .before .before .pre)) in
     λ i. c .right .ensures i with-passphrase (copied i) with-enabled true
 
+-- by search: slice-aggregate-copy, copy-requires, right-requires
 pub set-passphrase-spec : {M : Type 1} → statement M
 set-passphrase-spec =
-    tie.close (tie.spec slice-aggregate-copy copy-requires right-requires returns)
+    tie.close (tie.spec (λ c. search needs) (λ c κs. search needs) (λ c κs. search needs) returns)

@@ -19,38 +19,8 @@ fits c =
     let q = a .request .now in
     rw (c .before .word .ensures, c .word2 .ensures) (send-fits (a .t) (numberAt 4 0 q) (numberAt 4 4 q) (numberAt 4 8 q) (drop 12 q) (c .before .before .before .before .pre .1 .1))
 
-word-requires : tie.Need-word-requires
-word-requires c κs = search needs
-
-cast-offset : tie.Need-cast-offset
-cast-offset c = search needs
-
-word-requires-2 : tie.Need-word-requires-2
-word-requires-2 c κs = search needs
-
-cast-end : tie.Need-cast-end
-cast-end c = search needs
-
-add-end : tie.Need-add-end
-add-end c = search needs
-
-sub-copy : tie.Need-sub-copy
-sub-copy c = search needs
-
-part-copy-start : tie.Need-part-copy-start
-part-copy-start c = search needs
-
 part-copy-end : tie.Need-part-copy-end
 part-copy-end c = let f = fits c in omega (arith, c .before .before .before .before .pre .0)
-
-sub-copy-2 : tie.Need-sub-copy-2
-sub-copy-2 c = search needs
-
-part-copy-start-2 : tie.Need-part-copy-start-2
-part-copy-start-2 c = search needs
-
-part-copy-end-2 : tie.Need-part-copy-end-2
-part-copy-end-2 c = search needs
 
 copy-requires : tie.Need-copy-requires
 copy-requires c κs =
@@ -62,9 +32,6 @@ copy-requires c κs =
 
 add-received : tie.Need-add-received
 add-received c = let f = fits (c .before .before .before .before .before .before) in omega arith
-
-same-length : tie.Need-same-length
-same-length c = search needs
 
 returns : tie.Need-returns
 returns c =
@@ -78,22 +45,24 @@ returns c =
           ∙ ap (λ (o : ℕ). splice o (drop 12 (a .request .now)) (a .area .now)) (k .before .word .ensures),
     )
 
+-- by search: word-requires, cast-offset, word-requires-2, cast-end, add-end, sub-copy, part-copy-start, sub-copy-2, part-copy-start-2,
+-- part-copy-end-2, same-length
 pub send-spec : {M : Type 1} → statement M
 send-spec =
     tie.close
     (tie.spec
-    word-requires
-    cast-offset
-    word-requires-2
-    cast-end
-    add-end
-    sub-copy
-    part-copy-start
+    (λ c κs. search needs)
+    (λ c. search needs)
+    (λ c κs. search needs)
+    (λ c. search needs)
+    (λ c. search needs)
+    (λ c. search needs)
+    (λ c. search needs)
     part-copy-end
-    sub-copy-2
-    part-copy-start-2
-    part-copy-end-2
+    (λ c. search needs)
+    (λ c. search needs)
+    (λ c. search needs)
     copy-requires
     add-received
-    same-length
+    (λ c. search needs)
     returns)

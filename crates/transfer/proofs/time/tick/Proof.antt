@@ -7,43 +7,29 @@ use borrow.Author.Needs.{needs}
 use Rattle.transfer.proofs.time.tick.Statement.{statement}
 use Rattle.transfer.proofs.time.tick.Tie as tie
 
-phase-number-requires : tie.Need-phase-number-requires
-phase-number-requires c κs = search needs
-
 returns : tie.Need-returns
 returns c = simp (← c .before .phase-number .ensures, c .if1 .taken)
-
-sub-t8 : tie.Need-sub-t8
-sub-t8 c = search needs
 
 returns-2 : tie.Need-returns-2
 returns-2 c = simp (← c .before .before .before .before .phase-number .ensures, c .before .before .before .if1 .left, lt-ltb 1 (c .before .before .before .before .before .before .args .t .ticks) (c .before .if2 .taken))
 
-cast-received : tie.Need-cast-received
-cast-received c = search needs
-
 slice-aggregate-image : tie.Need-slice-aggregate-image
 slice-aggregate-image c = let k = c .before .before .before .before .before .before .before in sym (length-take-le (k .args .t .received) (k .args .area .now) (k .pre))
-
-image-requires : tie.Need-image-requires
-image-requires c κs = search needs
-
-verified-requires : tie.Need-verified-requires
-verified-requires c κs = search needs
 
 returns-3 : tie.Need-returns-3
 returns-3 c = simp (← c .before .before .before .before .before .before .before .phase-number .ensures, c .before .before .before .before .before .before .if1 .left, le-ltb 1 (c .before .before .before .before .before .before .before .before .before .args .t .ticks) (c .before .before .before .before .if2 .left), c .before .image .ensures, c .verified .ensures)
 
+-- by search: phase-number-requires, sub-t8, cast-received, image-requires, verified-requires
 pub tick-spec : {M : Type 1} → statement M
 tick-spec =
     tie.close
     (tie.spec
-    phase-number-requires
+    (λ c κs. search needs)
     returns
-    sub-t8
+    (λ c. search needs)
     returns-2
-    cast-received
+    (λ c. search needs)
     slice-aggregate-image
-    image-requires
-    verified-requires
+    (λ c κs. search needs)
+    (λ c κs. search needs)
     returns-3)
