@@ -4,12 +4,12 @@ use mathlib.Core.Path.{_≡_, refl, sym, _∙_, ap, subst}
 use mathlib.Core.Bool.{true, false}
 use mathlib.Core.List.{List, [], _∷_, _++_}
 use Prim.Native.Nat.{ℕ, _-_}
-use lib.ListN.{length}
+use lib.ListN.{length, take}
 use Rattle.rules.specs.Bytes.{zeros}
 use Rattle.rules.specs.Refusals.{Check, _gives_, verdict, statusBytes, statusLength, answerAfter}
 use Rattle.rules.specs.Table.{table, rowOf}
 use Rattle.rules.specs.Module.{Call, callOf, checks, accepted, callChecks, outcome, callResult}
-use Rattle.rules.specs.Demand1.{numbered, column, RefusedBy, Begins, Answered, OfCall, Demand1}
+use Rattle.rules.specs.Demand1.{numbered, column, RefusedBy, Answered, OfCall, Demand1}
 use Rattle.rules.specs.declared.Function.{Function}
 use Rattle.rules.specs.declared.Function.the-variants.{Mask, GetThreshold, GetFwInfo, Start, Send, Finish, Query, SetThreshold, GetSecurityState, SetPassphrase, Disable, Unlock, Freeze, Unserved}
 use Rattle.rules.specs.declared.Row.{Row}
@@ -111,21 +111,21 @@ accepted-long d Unlock revision request = refl
 accepted-long d Freeze revision request = refl
 accepted-long d Unserved revision request = refl
 
-accepted-begins : (d : Device) (f : Function) (revision : ℕ) (request : List ℕ) → Begins f (accepted d (callOf f revision request))
-accepted-begins d Mask revision request = tt
-accepted-begins d GetThreshold revision request = refl
-accepted-begins d GetFwInfo revision request = refl
-accepted-begins d Start revision request = refl
-accepted-begins d Send revision request = refl
-accepted-begins d Finish revision request = refl
-accepted-begins d Query revision request = refl
-accepted-begins d SetThreshold revision request = refl
-accepted-begins d GetSecurityState revision request = refl
-accepted-begins d SetPassphrase revision request = refl
-accepted-begins d Disable revision request = refl
-accepted-begins d Unlock revision request = refl
-accepted-begins d Freeze revision request = refl
-accepted-begins d Unserved revision request = refl
+accepted-begins : (d : Device) (f : Function) (revision : ℕ) (request : List ℕ) → (f ≡ Mask → ⊥) → take 4 (accepted d (callOf f revision request)) ≡ zeros 4
+accepted-begins d Mask revision request other = absurd (other refl)
+accepted-begins d GetThreshold revision request other = refl
+accepted-begins d GetFwInfo revision request other = refl
+accepted-begins d Start revision request other = refl
+accepted-begins d Send revision request other = refl
+accepted-begins d Finish revision request other = refl
+accepted-begins d Query revision request other = refl
+accepted-begins d SetThreshold revision request other = refl
+accepted-begins d GetSecurityState revision request other = refl
+accepted-begins d SetPassphrase revision request other = refl
+accepted-begins d Disable revision request other = refl
+accepted-begins d Unlock revision request other = refl
+accepted-begins d Freeze revision request other = refl
+accepted-begins d Unserved revision request other = refl
 
 module _ (d : Device) (area : List ℕ) (revision index : ℕ) (request answer : List ℕ) where
   judged : Verdict

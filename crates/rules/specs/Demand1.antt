@@ -14,8 +14,7 @@ use Rattle.rules.specs.Record.{fresh, possible}
 use Rattle.rules.specs.Refusals.{statusBytes, answerAfter, oneAttemptMore}
 use Rattle.rules.specs.Table.{rowOf}
 use Rattle.rules.specs.Module.{Result, callResult, Event, call, tick, power, step}
-use Rattle.rules.specs.declared.Function.{Function}
-use Rattle.rules.specs.declared.Function.the-variants.{Mask, GetThreshold, GetFwInfo, Start, Send, Finish, Query, SetThreshold, GetSecurityState, SetPassphrase, Disable, Unlock, Freeze, Unserved}
+use Rattle.rules.specs.declared.Function.the-variants.{Mask}
 use Rattle.rules.specs.declared.Row.{Row}
 use Rattle.rules.specs.declared.Refusal.{Refusal}
 use Rattle.rules.specs.declared.Refusal.the-variants.{R, Status}
@@ -49,28 +48,12 @@ RefusedBy (Status status ext) d area n answer result =
 
 -- An accepted call gets the function's answer: bytes of its length over the front of the buffer, which begin with status 0 and extended number 0, but for
 -- function 0.
-abbrev pub Begins : Function → (bytes : List ℕ) → Type 0
-Begins Mask bytes = Unit {0}
-Begins GetThreshold bytes = take 4 bytes ≡ zeros 4
-Begins GetFwInfo bytes = take 4 bytes ≡ zeros 4
-Begins Start bytes = take 4 bytes ≡ zeros 4
-Begins Send bytes = take 4 bytes ≡ zeros 4
-Begins Finish bytes = take 4 bytes ≡ zeros 4
-Begins Query bytes = take 4 bytes ≡ zeros 4
-Begins SetThreshold bytes = take 4 bytes ≡ zeros 4
-Begins GetSecurityState bytes = take 4 bytes ≡ zeros 4
-Begins SetPassphrase bytes = take 4 bytes ≡ zeros 4
-Begins Disable bytes = take 4 bytes ≡ zeros 4
-Begins Unlock bytes = take 4 bytes ≡ zeros 4
-Begins Freeze bytes = take 4 bytes ≡ zeros 4
-Begins Unserved bytes = take 4 bytes ≡ zeros 4
-
 pub record Answered (row : Row) (answer : List ℕ) (result : Result) : Type 0 where
   pub bytes : List ℕ
   pub written : result .answer ≡ answerAfter bytes answer
   pub long : length bytes ≡ row .answer
   pub told : result .reply .length ≡ row .answer
-  pub begins : Begins (row .function) bytes
+  pub begins : (row .function ≡ Mask → ⊥) → take 4 bytes ≡ zeros 4
 
 -- Demand 1 of a call
 pub record OfCall (d : Device) (area : List ℕ) (revision index : ℕ) (request answer : List ℕ) : Type 0 where

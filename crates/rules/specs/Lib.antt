@@ -1,10 +1,11 @@
 -- Document 01 as definitions, in the page's order, but for two: an image stands before the transfer that verifies it, and the module, the page's first
 -- section, after the parts that it joins. Vocabulary first: tests, bytes, text.
 --
--- How to read them. `abbrev` and `unfoldable` both begin a definition; the line below its name and type is what it says. `f x y` is f of x and y; `x .f` is
--- the field f of x; `p .0` and `p .1` are the two halves of a pair; `λ m. ..` is "given m, ..". ℕ is the numbers 0, 1, 2 and so on, of any size. A list is
--- `[]`, empty, or `a ∷ b`, a before the list b; `++` joins two lists; `take n` and `drop n` are a list's first n and all after them. A test ends in `?`;
--- `&&` is and, `||` is or. A statement: `≡` is "equals", `×` and, `⊎` or, `→` "if .., then ..", `↔` "exactly when", `⊥` never, `Unit` always.
+-- How to read them. `abbrev` and `unfoldable` both begin a definition; the line below its name and type is what it says. `f x y` is f of x and y; `x .f`
+-- is the field f of x; `p .0` and `p .1` are the two halves of a pair; `λ m. ..` is "given m, ..". ℕ is the numbers 0, 1, 2 and so on, of any size. A
+-- list is `[]`, empty, or `a ∷ b`, a before the list b; `++` joins two lists; `take n` and `drop n` are a list's first n and all after them. `=?`, `<?`
+-- and `≤?` compare two numbers and come out true or false; `&&` is and, `||` is or. A statement: `≡` is "equals", `×` and, `⊎` or, `→` "if .., then ..",
+-- `↔` "exactly when", `⊥` never, `Unit` always.
 -- "Assumes nothing" says that a file rests on no unproved assumption.
 pub mod Tests
 pub mod Bytes
