@@ -11,28 +11,28 @@ pub record Machine (S E A : Type 0) : Type 0 where
   pub next : S → E → S
 
 -- an entry of a history: an event, and the answer that it got
-pub record Entry (E A : Type 0) : Type 0 where
+pub record Exchange (E A : Type 0) : Type 0 where
   pub event : E
   pub got : A
 
 module _ {S E A : Type 0} (M : Machine S E A) where
   -- the history that these events make, from the state s
-  abbrev pub historyOf : S → List E → List (Entry E A)
+  abbrev pub historyOf : S → List E → List (Exchange E A)
   historyOf s [] = []
   historyOf s (event ∷ events) = record { event = event; got = M .answer s event } ∷ historyOf (M .next s event) events
 
   -- from the state s, every event of the history is answered just as the history says
-  abbrev pub Plays : S → List (Entry E A) → Type 0
+  abbrev pub Plays : S → List (Exchange E A) → Type 0
   Plays s [] = Unit {0}
   Plays s (x ∷ h) = (M .answer s (x .event) ≡ x .got) × Plays (M .next s (x .event)) h
 
   -- the end to which the history comes, from the state s
-  abbrev pub end : S → List (Entry E A) → S
+  abbrev pub end : S → List (Exchange E A) → S
   end s [] = s
   end s (x ∷ h) = end (M .next s (x .event)) h
 
   -- "no answer or end changes": from the state s every event of k is answered just as k says, and k comes to the same end as h
-  pub record Same (s : S) (h k : List (Entry E A)) : Type 0 where
+  pub record Same (s : S) (h k : List (Exchange E A)) : Type 0 where
     pub plays : Plays s k
     pub ends : end s k ≡ end s h
 

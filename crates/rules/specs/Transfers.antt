@@ -10,7 +10,7 @@ use Rattle.rules.specs.Refusals.{refused?}
 use Rattle.rules.specs.Table.{rowOf}
 use Rattle.rules.specs.Transfer.{GetFwInfo, Start, Send, Finish, Query}
 use Rattle.rules.specs.Module.{Call, OnMask, OnThresholds, OnTransfer, OnSecurity, OnNothing, callOf, Module, Result, Event, call, tick, power, step, after}
-use Rattle.rules.specs.History.{Machine, Entry}
+use Rattle.rules.specs.History.{Machine, Exchange}
 use Rattle.rules.specs.declared.Reply.{Reply}
 
 -- What an event is answered: the reply, and the whole answer buffer afterwards.
@@ -32,7 +32,7 @@ machine =
 
 -- an event with what it was answered
 abbrev pub Line : Type 0
-Line = Entry Event Answer
+Line = Exchange Event Answer
 
 -- such entries, in the order in which they came
 abbrev pub History : Type 0
