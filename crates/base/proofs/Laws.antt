@@ -5,7 +5,7 @@ use mathlib.Core.List.{List, [], _∷_, _++_}
 use Prim.Native.Nat.{ℕ, suc, _≤_, _<_, _+_}
 use native.Mathlib.Nat.{le-of-lt, zero-add}
 use native.Mathlib.Numerals.{add-one}
-use borrow.Author.Tests.{eq-eqb, ne-eqb, eqb-true}
+use borrow.Author.Tests.{eq-eqb, ne-eqb, eqb-true, eqb-false}
 use lib.Dec.{eqb}
 use lib.ListN.{length, getD, take, drop, set, drop-of-length-le}
 use lib.Seq.{drop-cons, take-suc, append-snoc, set-at, length-take-le, take-length}
@@ -66,6 +66,21 @@ same-lengths a b n = go (same? a b) refl
     go : (t : Bool) → same? a b ≡ t → false ≡ t
     go true p = absurd (n (ap length (same-true a b p)))
     go false p = refl
+
+eqb-swap : (x y : ℕ) → eqb x y ≡ eqb y x
+eqb-swap x y = go (eqb x y) refl
+  where
+    go : (t : Bool) → eqb x y ≡ t → eqb x y ≡ eqb y x
+    go true p = p ∙ sym (eq-eqb y x (sym (eqb-true x y p)))
+    go false p = p ∙ sym (ne-eqb y x (λ e. eqb-false x y p (sym e)))
+
+-- which of the two comes first does not matter
+pub same-swap : (a b : List ℕ) → same? a b ≡ same? b a
+unfolding same?
+same-swap [] [] = refl
+same-swap [] (y ∷ ys) = refl
+same-swap (x ∷ xs) [] = refl
+same-swap (x ∷ xs) (y ∷ ys) = λ i. eqb-swap x y i && same-swap xs ys i
 
 -- a copy to the front, at place i
 pub copy-on : (to from : List ℕ) (i : ℕ) → i < length from → i < length to

@@ -97,13 +97,15 @@ pub fn copy_at(out: &mut [u8], at: usize, from: &[u8])
     copy(&mut out[at..e], from);
 }
 
-// The number in the 4 bytes at a place.
+// The number in the 4 bytes at a place. Put together by shifts and not by a loop, it is read as one word wherever it is used.
 pub fn word(s: &[u8], at: usize) -> u32
     requires { ⌜ at + 4 ≤ length (now s) ⌝ }
     ensures { λ r. ⌜ r ≡ numberAt 4 at (now (s .entry)) ⌝ }
 {
-    let e = at + 4;
-    number(&s[at..e]) as u32
+    (s[at] as u32)
+        | ((s[at + 1] as u32) << 8)
+        | ((s[at + 2] as u32) << 16)
+        | ((s[at + 3] as u32) << 24)
 }
 
 // The byte at a place.
@@ -123,11 +125,17 @@ pub fn half(s: &[u8], at: usize) -> u16
     number(&s[at..e]) as u16
 }
 
-// The number in the 8 bytes at a place.
+// The number in the 8 bytes at a place, by shifts too.
 pub fn long(s: &[u8], at: usize) -> u64
     requires { ⌜ at + 8 ≤ length (now s) ⌝ }
     ensures { λ r. ⌜ r ≡ numberAt 8 at (now (s .entry)) ⌝ }
 {
-    let e = at + 8;
-    number(&s[at..e])
+    (s[at] as u64)
+        | ((s[at + 1] as u64) << 8)
+        | ((s[at + 2] as u64) << 16)
+        | ((s[at + 3] as u64) << 24)
+        | ((s[at + 4] as u64) << 32)
+        | ((s[at + 5] as u64) << 40)
+        | ((s[at + 6] as u64) << 48)
+        | ((s[at + 7] as u64) << 56)
 }

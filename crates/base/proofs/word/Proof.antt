@@ -1,52 +1,62 @@
--- `base::word` meets its contract. It is the number in a part of four bytes, which fits 32 bits.
+-- `base::word` meets its contract. The bytes by shifts are the number (proofs/Shifts.antt).
 -- Assumes nothing.
-use mathlib.Core.Path.{_≡_, _∙_, ap}
-use native.Mathlib.Omega.{arith}
-use native.Mathlib.Nat.{add-sub-cancel-left}
-use Prim.Native.Nat.{ℕ}
-use lib.ListN.{take, drop}
-use Rattle.rules.specs.Bytes.{ofLe, numberAt}
-use Rattle.base.proofs.Le.{numberAt-below}
+use Prim.Native.Nat.{_+_}
+use Rattle.base.proofs.Shifts.{in-word, four}
 use borrow.Author.Needs.{needs}
 use Rattle.base.proofs.word.Statement.{statement}
 use Rattle.base.proofs.word.Tie as tie
 
-part : (c : tie.After-number) → c .number .result ≡ numberAt 4 (c .before .before .before .args .at) (c .before .before .before .args .s .now)
-part c =
-    let a = c .before .before .before .args in
-    c .number .ensures ∙ ap (λ (k : ℕ). ofLe (take k (drop a.at a.s.now))) (add-sub-cancel-left a.at 4)
-
-add-e : tie.Need-add-e
-add-e c = search needs
-
-sub-number : tie.Need-sub-number
-sub-number c = search needs
-
-part-number-start : tie.Need-part-number-start
-part-number-start c = search needs
-
-part-number-end : tie.Need-part-number-end
-part-number-end c = search needs
-
-number-requires : tie.Need-number-requires
-number-requires c κs = search needs
+shared-slice-read-result : tie.Need-shared-slice-read-result
+shared-slice-read-result c = search needs
 
 cast-result : tie.Need-cast-result
-cast-result c =
-    let a = c .before .before .before .args in
-    omega (arith, part c, numberAt-below 4 a.at a.s.now (c .before .before .shared-slice-known .given))
+cast-result c = in-word _ (c .shared-slice-known .given (c .before .args .at))
+
+add-result : tie.Need-add-result
+add-result c = search needs
+
+shared-slice-read-result-2 : tie.Need-shared-slice-read-result-2
+shared-slice-read-result-2 c = search needs
+
+cast-result-2 : tie.Need-cast-result-2
+cast-result-2 c = in-word _ (c .shared-slice-known2 .given (c .before .before .args .at + 1))
+
+add-result-2 : tie.Need-add-result-2
+add-result-2 c = search needs
+
+shared-slice-read-result-3 : tie.Need-shared-slice-read-result-3
+shared-slice-read-result-3 c = search needs
+
+cast-result-3 : tie.Need-cast-result-3
+cast-result-3 c = in-word _ (c .shared-slice-known3 .given (c .before .before .before .args .at + 2))
+
+add-result-3 : tie.Need-add-result-3
+add-result-3 c = search needs
+
+shared-slice-read-result-4 : tie.Need-shared-slice-read-result-4
+shared-slice-read-result-4 c = search needs
+
+cast-result-4 : tie.Need-cast-result-4
+cast-result-4 c = in-word _ (c .shared-slice-known4 .given (c .before .before .before .before .args .at + 3))
 
 returns : tie.Need-returns
-returns c = part c
+returns c =
+    let a = c .before .before .before .before .args in
+    four (a .s .now) (a .at) (c .shared-slice-known4 .given) (c .before .before .before .before .pre)
 
 pub word-spec : {M : Type 1} → statement M
 word-spec =
     tie.close
     (tie.spec
-    add-e
-    sub-number
-    part-number-start
-    part-number-end
-    number-requires
+    shared-slice-read-result
     cast-result
+    add-result
+    shared-slice-read-result-2
+    cast-result-2
+    add-result-2
+    shared-slice-read-result-3
+    cast-result-3
+    add-result-3
+    shared-slice-read-result-4
+    cast-result-4
     returns)
