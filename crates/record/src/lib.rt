@@ -1,6 +1,8 @@
 // The device record in code: fresh, possible, the checks of R2 and R3, and one wrong attempt more.
 ghost use mathlib.Core.Path.{_≡_};
 ghost use Prim.Native.Nat.{_≤_};
+ghost use lib.ListN.{length};
+ghost use Rattle.rules.specs.Bytes.{zeros?};
 ghost use Rattle.rules.specs.Record.{phaseNumber, fresh, possible, possibleTransfer, possibleSecurity, possibleThresholds};
 ghost use Rattle.rules.specs.Refusals.{verdict, eventChecks, left};
 use rules::Device;
@@ -67,10 +69,21 @@ fn possible_transfer(t: Transfer) -> bool
         & (staged | (t.staged == 0))
 }
 
+// 32 bytes are zero, by four numbers and not byte by byte: a record that is judged stays whole words.
+fn all_zero(passphrase: &[u8]) -> bool
+    requires { ⌜ length (now passphrase) ≡ 32 ⌝ }
+    ensures { λ r. ⌜ r ≡ zeros? (now (passphrase .entry)) ⌝ }
+{
+    (base::long(passphrase, 0) == 0)
+        & (base::long(passphrase, 8) == 0)
+        & (base::long(passphrase, 16) == 0)
+        & (base::long(passphrase, 24) == 0)
+}
+
 fn possible_security(s: Security) -> bool
     ensures { λ r. ⌜ r ≡ possibleSecurity s ⌝ }
 {
-    let zero = base::all_zero(&s.passphrase);
+    let zero = all_zero(&s.passphrase);
     (!s.locked | s.enabled) & (s.enabled | zero) & (s.attempts <= 10)
 }
 
