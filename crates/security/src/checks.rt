@@ -1,6 +1,7 @@
 // The checks of Set Passphrase, Disable, Unlock and Freeze: the security state first, the passphrase last.
 ghost use mathlib.Core.Path.{_≡_};
 ghost use mathlib.Core.List.{[], _∷_};
+ghost use Rattle.rules.specs.Bytes.{same?};
 ghost use Rattle.rules.specs.Refusals.{_gives_, verdict};
 ghost use Rattle.rules.specs.Security.{frozenCheck, setPassphraseChecks, disableChecks, unlockChecks};
 use rules::Refusal;
@@ -24,24 +25,34 @@ fn judge_passphrase(s: Security, forbidden: bool, wrong: bool) -> Verdict
     Verdict::Accepted
 }
 
+// The passphrase given is the one kept. The kept one goes alone into the comparison, so that the rest of the record stays whole words.
+fn is(passphrase: [u8; 32], given: &[u8]) -> bool
+    ensures { λ r. ⌜ r ≡ same? (now (given .entry)) passphrase ⌝ }
+{
+    base::same(&passphrase, given)
+}
+
 pub fn judge_set_passphrase(s: Security, given: &[u8]) -> Verdict
     ensures { λ r. ⌜ r ≡ verdict (setPassphraseChecks s (now (given .entry))) ⌝ }
 {
-    let same = base::same(given, &s.passphrase);
+    let kept = s.passphrase;
+    let same = is(kept, given);
     judge_passphrase(s, s.locked, s.enabled & !same)
 }
 
 pub fn judge_disable(s: Security, given: &[u8]) -> Verdict
     ensures { λ r. ⌜ r ≡ verdict (disableChecks s (now (given .entry))) ⌝ }
 {
-    let same = base::same(given, &s.passphrase);
+    let kept = s.passphrase;
+    let same = is(kept, given);
     judge_passphrase(s, !(s.enabled & !s.locked), !same)
 }
 
 pub fn judge_unlock(s: Security, given: &[u8]) -> Verdict
     ensures { λ r. ⌜ r ≡ verdict (unlockChecks s (now (given .entry))) ⌝ }
 {
-    let same = base::same(given, &s.passphrase);
+    let kept = s.passphrase;
+    let same = is(kept, given);
     judge_passphrase(s, !(s.enabled & s.locked), !same)
 }
 

@@ -4,14 +4,14 @@ use borrow.Author.Needs.{needs}
 use Rattle.security.proofs.checks.judge_set_passphrase.Statement.{statement}
 use Rattle.security.proofs.checks.judge_set_passphrase.Tie as tie
 
-same-requires : tie.Need-same-requires
-same-requires c κs = search needs
+is-requires : tie.Need-is-requires
+is-requires c κs = search needs
 
 judge-passphrase-requires : tie.Need-judge-passphrase-requires
 judge-passphrase-requires c κs = search needs
 
 returns : tie.Need-returns
-returns c = simp (c .before .same .ensures, c .judge-passphrase .ensures)
+returns c = simp (c .before .before .is .ensures, c .judge-passphrase .ensures)
 
 pub judge-set-passphrase-spec : {M : Type 1} → statement M
-judge-set-passphrase-spec = tie.close (tie.spec same-requires judge-passphrase-requires returns)
+judge-set-passphrase-spec = tie.close (tie.spec is-requires judge-passphrase-requires returns)

@@ -1,0 +1,19 @@
+-- `security::is` meets its contract. Which of the two is compared with which does not matter.
+-- Assumes nothing.
+use mathlib.Core.Path.{_∙_}
+use Rattle.base.proofs.Laws.{same-swap}
+use borrow.Author.Needs.{needs}
+use Rattle.security.proofs.checks.is.Statement.{statement}
+use Rattle.security.proofs.checks.is.Tie as tie
+
+slice-aggregate-same : tie.Need-slice-aggregate-same
+slice-aggregate-same c = search needs
+
+same-requires : tie.Need-same-requires
+same-requires c κs = search needs
+
+returns : tie.Need-returns
+returns c = c .same .ensures ∙ same-swap _ _
+
+pub is-spec : {M : Type 1} → statement M
+is-spec = tie.close (tie.spec slice-aggregate-same same-requires returns)
