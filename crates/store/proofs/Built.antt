@@ -2,8 +2,9 @@
 -- Assumes nothing.
 use mathlib.Core.Path.{_≡_, _∙_, ap}
 use mathlib.Core.List.{List, _++_}
-use Prim.Native.Nat.{ℕ, _+_}
-use lib.ListN.{length, take, drop}
+use Prim.Native.Nat.{ℕ, _≤_, _+_}
+use native.Mathlib.Omega.{arith}
+use lib.ListN.{length, take, drop, drop-of-length-le}
 use Rattle.rules.specs.Bytes.{le, zeros, splice}
 use Rattle.rules.specs.Record.{phaseNumber}
 use Rattle.rules.specs.declared.Transfer.{Transfer}
@@ -56,6 +57,10 @@ security-placed x s {a} {b} {c} p q r t ea eb ec ed ee =
     (ec ∙ ap (λ (n : ℕ). splice 3 (le 1 n) b) r ∙ ap (splice 3 (le 1 (flag (x .frozen))))
     (eb ∙ ap (λ (n : ℕ). splice 2 (le 1 n) a) q ∙ ap (splice 2 (le 1 (flag (x .locked))))
     (ea ∙ ap (λ (n : ℕ). splice 1 (le 1 n) s) p))))
+
+-- 128 zeros over 128 bytes leave nothing of them
+pub cleared : (s : List ℕ) → length s ≡ 128 → splice 0 (le 128 0) s ≡ zeros 128
+cleared s h = let short : length s ≤ 128 = omega (arith, h) in ap (λ (l : List ℕ). zeros 128 ++ l) (drop-of-length-le s short)
 
 -- all numbers in their places, before the passphrase is copied
 abbrev numbered : Device → List ℕ

@@ -1,6 +1,7 @@
 // The device record as 128 bytes, and back. Any bytes of any length decode: those that are no record, to one that is not possible.
 ghost use mathlib.Core.Path.{_≡_};
-ghost use lib.ListN.{length};
+ghost use lib.ListN.{length, take, drop};
+ghost use Rattle.rules.specs.Bytes.{zeros?};
 ghost use Rattle.store.specs.Store.{flag, encodeOf, phaseOf, record?, recordOf, impossible, decodeOf};
 ghost use Rattle.store.specs.Places.{transferOver, thresholdsOver, securityOver};
 use rules::Device;
@@ -18,7 +19,8 @@ fn flag(on: bool) -> u64
     0
 }
 
-fn put_transfer(t: Transfer, out: &mut [u8; 128])
+fn put_transfer(t: Transfer, out: &mut [u8])
+    requires { ⌜ length (now out) ≡ 128 ⌝ }
     ensures { λ r. ⌜ now (out .exit) ≡ transferOver t (now (out .entry)) ⌝ }
 {
     let p = t.phase;
@@ -31,7 +33,8 @@ fn put_transfer(t: Transfer, out: &mut [u8; 128])
     base::put_at(out, 24, 8, t.staged);
 }
 
-fn put_thresholds(h: Thresholds, out: &mut [u8; 128])
+fn put_thresholds(h: Thresholds, out: &mut [u8])
+    requires { ⌜ length (now out) ≡ 128 ⌝ }
     ensures { λ r. ⌜ now (out .exit) ≡ thresholdsOver h (now (out .entry)) ⌝ }
 {
     base::put_at(out, 6, 2, h.enable as u64);
@@ -40,7 +43,8 @@ fn put_thresholds(h: Thresholds, out: &mut [u8; 128])
     base::put_at(out, 36, 2, h.controller as u64);
 }
 
-fn put_security(s: Security, out: &mut [u8; 128])
+fn put_security(s: Security, out: &mut [u8])
+    requires { ⌜ length (now out) ≡ 128 ⌝ }
     ensures { λ r. ⌜ now (out .exit) ≡ securityOver s (now (out .entry)) ⌝ }
 {
     base::put_at(out, 1, 1, flag(s.enabled));
@@ -50,14 +54,45 @@ fn put_security(s: Security, out: &mut [u8; 128])
     base::copy_at(out, 64, &s.passphrase);
 }
 
+// Writes the record's bytes over 128 bytes, straight into where they are kept.
+pub fn put(d: Device, out: &mut [u8])
+    requires { ⌜ length (now out) ≡ 128 ⌝ }
+    ensures { λ r. ⌜ now (out .exit) ≡ encodeOf d ⌝ }
+{
+    base::put_at(out, 0, 128, 0);
+    put_transfer(d.transfer, out);
+    put_thresholds(d.thresholds, out);
+    put_security(d.security, out);
+}
+
 pub fn encode(d: Device) -> [u8; 128]
     ensures { λ r. ⌜ r ≡ encodeOf d ⌝ }
 {
     let mut out = [0u8; 128];
-    put_transfer(d.transfer, &mut out);
-    put_thresholds(d.thresholds, &mut out);
-    put_security(d.security, &mut out);
+    put(d, &mut out);
     out
+}
+
+// Bytes 38 to 63 are zero, by four numbers and not byte by byte.
+fn zero_between(s: &[u8]) -> bool
+    requires { ⌜ length (now s) ≡ 128 ⌝ }
+    ensures { λ r. ⌜ r ≡ zeros? (take 26 (drop 38 (now (s .entry)))) ⌝ }
+{
+    (base::half(s, 38) == 0)
+        & (base::long(s, 40) == 0)
+        & (base::long(s, 48) == 0)
+        & (base::long(s, 56) == 0)
+}
+
+// Bytes 96 to 127 are zero.
+fn zero_after(s: &[u8]) -> bool
+    requires { ⌜ length (now s) ≡ 128 ⌝ }
+    ensures { λ r. ⌜ r ≡ zeros? (drop 96 (now (s .entry))) ⌝ }
+{
+    (base::long(s, 96) == 0)
+        & (base::long(s, 104) == 0)
+        & (base::long(s, 112) == 0)
+        & (base::long(s, 120) == 0)
 }
 
 fn is_record(s: &[u8]) -> bool
@@ -71,8 +106,8 @@ fn is_record(s: &[u8]) -> bool
     let locked = base::byte(s, 2);
     let frozen = base::byte(s, 3);
     let spare = base::byte(s, 33);
-    let between = base::all_zero(&s[38..64]);
-    let after = base::all_zero(&s[96..]);
+    let between = zero_between(s);
+    let after = zero_after(s);
     (phase <= 4) & (enabled <= 1) & (locked <= 1) & (frozen <= 1) & (spare == 0) & between & after
 }
 

@@ -32,11 +32,14 @@ put-at-requires-4 c κs = search needs
 copy-at-requires : tie.Need-copy-at-requires
 copy-at-requires c κs = search needs
 
+same-length : tie.Need-same-length
+same-length c = search needs
+
 returns : tie.Need-returns
 returns c =
-    let a = c .before .before .before .before .before .before .before .before .before .before .before .before .before .before .before .before .before .args in
-    security-placed (a .t1) (a .out .now) (c .before .before .before .before .before .before .before .before .before .before .before .before .before .before .before .flag .ensures) (c .before .before .before .before .before .before .before .before .before .before .before .before .flag2 .ensures) (c .before .before .before .before .before .before .before .before .before .flag3 .ensures) (c .before .before .before .before .before .before .wide .ensures) (c .before .before .before .before .before .before .before .before .before .before .before .before .before .before .put-at .ensures) (c .before .before .before .before .before .before .before .before .before .before .before .put-at2 .ensures)
-    (c .before .before .before .before .before .before .before .before .put-at3 .ensures) (c .before .before .before .before .before .put-at4 .ensures) (c .copy-at .ensures)
+    let a = c .before .before .before .before .before .before .before .before .before .before .before .before .before .before .before .before .before .before .before .before .before .before .before .before .before .before .before .before .args in
+    security-placed (a .t1) (a .out .now) (c .before .before .before .before .before .before .before .before .before .before .before .before .before .before .before .before .before .before .before .before .before .before .before .before .before .flag .ensures) (c .before .before .before .before .before .before .before .before .before .before .before .before .before .before .before .before .before .before .before .before .flag2 .ensures) (c .before .before .before .before .before .before .before .before .before .before .before .before .before .before .before .flag3 .ensures) (c .before .before .before .before .before .before .before .before .before .before .wide .ensures)
+    (c .before .before .before .before .before .before .before .before .before .before .before .before .before .before .before .before .before .before .before .before .before .before .before .before .put-at .ensures) (c .before .before .before .before .before .before .before .before .before .before .before .before .before .before .before .before .before .before .before .put-at2 .ensures) (c .before .before .before .before .before .before .before .before .before .before .before .before .before .before .put-at3 .ensures) (c .before .before .before .before .before .before .before .before .before .put-at4 .ensures) (c .before .before .copy-at .ensures)
 
 pub put-security-spec : {M : Type 1} → statement M
 put-security-spec =
@@ -51,4 +54,5 @@ put-security-spec =
     wide-requires
     put-at-requires-4
     copy-at-requires
+    same-length
     returns)

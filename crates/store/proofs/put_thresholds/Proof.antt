@@ -29,10 +29,13 @@ cast-put-at-3 c = search needs
 put-at-requires-4 : tie.Need-put-at-requires-4
 put-at-requires-4 c κs = search needs
 
+same-length : tie.Need-same-length
+same-length c = search needs
+
 returns : tie.Need-returns
 returns c =
-    let a = c .before .before .before .before .before .before .before .before .before .before .before .before .args in
-    thresholds-placed (a .h) (a .out .now) (c .before .before .before .before .before .before .before .wide .ensures) (c .before .before .before .before .before .before .before .before .before .put-at .ensures) (c .before .before .before .before .before .before .put-at2 .ensures) (c .before .before .before .put-at3 .ensures) (c .put-at4 .ensures)
+    let a = c .before .before .before .before .before .before .before .before .before .before .before .before .before .before .before .before .before .before .before .before .before .args in
+    thresholds-placed (a .h) (a .out .now) (c .before .before .before .before .before .before .before .before .before .before .before .before .before .wide .ensures) (c .before .before .before .before .before .before .before .before .before .before .before .before .before .before .before .before .before .put-at .ensures) (c .before .before .before .before .before .before .before .before .before .before .before .before .put-at2 .ensures) (c .before .before .before .before .before .before .before .put-at3 .ensures) (c .before .before .put-at4 .ensures)
 
 pub put-thresholds-spec : {M : Type 1} → statement M
 put-thresholds-spec =
@@ -46,4 +49,5 @@ put-thresholds-spec =
     put-at-requires-3
     cast-put-at-3
     put-at-requires-4
+    same-length
     returns)

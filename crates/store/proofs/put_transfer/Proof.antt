@@ -39,11 +39,14 @@ put-at-requires-5 c κs = search needs
 put-at-requires-6 : tie.Need-put-at-requires-6
 put-at-requires-6 c κs = search needs
 
+same-length : tie.Need-same-length
+same-length c = search needs
+
 returns : tie.Need-returns
 returns c =
-    let a = c .before .before .before .before .before .before .before .before .before .before .before .before .before .before .before .before .before .args in
-    transfer-placed (a .t) (a .out .now) (c .before .before .before .before .before .before .before .before .before .before .before .before .before .before .wide .ensures ∙ c .before .before .before .before .before .before .before .before .before .before .before .before .before .before .before .before .phase-number .ensures) (c .before .before .before .before .before .before .before .before .before .before .before .wide2 .ensures) (c .before .before .before .before .before .before .before .before .before .before .before .before .before .put-at .ensures) (c .before .before .before .before .before .before .before .before .before .before .put-at2 .ensures)
-    (c .before .before .before .before .before .before .before .put-at3 .ensures) (c .before .before .before .before .put-at4 .ensures) (c .before .before .put-at5 .ensures) (c .put-at6 .ensures)
+    let a = c .before .before .before .before .before .before .before .before .before .before .before .before .before .before .before .before .before .before .before .before .before .before .before .before .before .before .before .before .before .before .args in
+    transfer-placed (a .t) (a .out .now) (c .before .before .before .before .before .before .before .before .before .before .before .before .before .before .before .before .before .before .before .before .before .before .before .before .before .before .wide .ensures ∙ c .before .before .before .before .before .before .before .before .before .before .before .before .before .before .before .before .before .before .before .before .before .before .before .before .before .before .before .before .phase-number .ensures) (c .before .before .before .before .before .before .before .before .before .before .before .before .before .before .before .before .before .before .before .before .before .wide2 .ensures) (c .before .before .before .before .before .before .before .before .before .before .before .before .before .before .before .before .before .before .before .before .before .before .before .before .before .put-at .ensures) (c .before .before .before .before .before .before .before .before .before .before .before .before .before .before .before .before .before .before .before .before .put-at2 .ensures)
+    (c .before .before .before .before .before .before .before .before .before .before .before .before .before .before .before .put-at3 .ensures) (c .before .before .before .before .before .before .before .before .before .before .put-at4 .ensures) (c .before .before .before .before .before .before .put-at5 .ensures) (c .before .before .put-at6 .ensures)
 
 pub put-transfer-spec : {M : Type 1} → statement M
 put-transfer-spec =
@@ -60,4 +63,5 @@ put-transfer-spec =
     put-at-requires-4
     put-at-requires-5
     put-at-requires-6
+    same-length
     returns)

@@ -1,0 +1,34 @@
+-- `store::zero_after` meets its contract. Each number is zero where its bytes are (base/proofs/Zeros.antt), and the four are all that is left.
+-- Assumes nothing.
+use mathlib.Core.Path.{_∙_, ap}
+use native.Mathlib.Omega.{arith}
+use lib.ListN.{drop, length-drop}
+use lib.Seq.{take-all}
+use Rattle.rules.specs.Bytes.{zeros?}
+use Rattle.base.proofs.Zeros.{zero-first, zero-more}
+use borrow.Author.Needs.{needs}
+use Rattle.store.proofs.zero_after.Statement.{statement}
+use Rattle.store.proofs.zero_after.Tie as tie
+
+long-requires : tie.Need-long-requires
+long-requires c κs = search needs
+
+long-requires-2 : tie.Need-long-requires-2
+long-requires-2 c κs = search needs
+
+long-requires-3 : tie.Need-long-requires-3
+long-requires-3 c κs = search needs
+
+long-requires-4 : tie.Need-long-requires-4
+long-requires-4 c κs = search needs
+
+returns : tie.Need-returns
+returns c =
+    let k = c .before .before .before .before .before in
+    let s = k .args .s .now in
+    zero-more 96 24 8 s (zero-more 96 16 8 s (zero-more 96 8 8 s (zero-first 96 8 s (c .before .before .before .long .ensures)) (c .before .before .long2 .ensures)) (c .before .long3 .ensures)) (c .long4 .ensures)
+    ∙ ap zeros? (take-all 32 (drop 96 s) (rw length-drop (omega (arith, k .pre))))
+
+pub zero-after-spec : {M : Type 1} → statement M
+zero-after-spec =
+    tie.close (tie.spec long-requires long-requires-2 long-requires-3 long-requires-4 returns)
