@@ -29,8 +29,7 @@ fn write(d: Device, bytes: &mut [u8], n: usize) -> i32
     requires { ⌜ (length (now bytes) ≡ 128) × (n ≤ 64) ⌝ }
     ensures { λ r. ⌜ (r ≡ pos n) × (now (bytes .exit) ≡ encodeOf d) ⌝ }
 {
-    let encoded = store::encode(d);
-    base::copy(bytes, &encoded);
+    store::put(d, bytes);
     length(n)
 }
 
