@@ -16,25 +16,10 @@ write-requires c κs =
     let k = c .before .before .before .before .before in
     (sized-by _ (k .args .outcome .reply) (k .args .bytes .now) (c .before .enum-told .given .1) (k .pre), k .pre .short)
 
-enum-known-verdict : tie.Need-enum-known-verdict
-enum-known-verdict c = search needs
-
-enum-known-reason : tie.Need-enum-known-reason
-enum-known-reason c = search needs
-
-refusal-requires : tie.Need-refusal-requires
-refusal-requires c κs = search needs
-
-enum-known-reason-2 : tie.Need-enum-known-reason-2
-enum-known-reason-2 c = search needs
-
 write-requires-2 : tie.Need-write-requires-2
 write-requires-2 c κs =
     let k = c .before .before .before .before .before .before .before .before .before .before in
     (sized-by _ (k .args .outcome .reply) (k .args .bytes .now) (c .before .before .before .before .before .before .verdict .given .1 ∙ ap Refused (c .before .before .before .reason2 .given .1)) (k .pre), k .pre .short)
-
-same-length : tie.Need-same-length
-same-length c = search needs
 
 returns : tie.Need-returns
 returns c =
@@ -42,12 +27,6 @@ returns c =
     let w = c .before .before .write2 in
     settled _ (k .args .outcome .reply) (k .args .outcome .device) (k .args .bytes .now) (c .before .before .before .before .before .before .before .before .before .verdict .given .1 ∙ ap Refused (c .before .before .before .before .before .before .reason2 .given .1)) (passed-on (w .ok) (w .ensures .0))
     (counted (c .before .before .before .before .before .before .reason2 .given .0 .0) (c .before .before .before .before .before .before .reason2 .given .0 .1 .0) (k .args .outcome .device) (k .args .bytes .now) (c .before .before .before .before .if1 .taken) (w .ensures .1))
-
-length-requires : tie.Need-length-requires
-length-requires c κs = search needs
-
-same-length-2 : tie.Need-same-length-2
-same-length-2 c = search needs
 
 returns-2 : tie.Need-returns-2
 returns-2 c =
@@ -66,21 +45,22 @@ returns-4 c =
     settled _ (k .args .outcome .reply) (k .args .outcome .device) (k .args .bytes .now) (c .before .before .before .before .before .before .verdict .given .1 ∙ ap Refused (c .before .before .before .reason2 .given .1)) (passed-on (c .length .ok) (c .length .ensures))
     (not-counted (c .before .before .before .reason2 .given .0 .0) (c .before .before .before .reason2 .given .0 .1 .0) (k .args .outcome .device) (k .args .bytes .now) (c .before .if1 .left))
 
+-- by search: enum-known-verdict, enum-known-reason, refusal-requires, enum-known-reason-2, same-length, length-requires, same-length-2
 pub keep-spec : {M : Type 1} → statement M
 keep-spec =
     tie.close
     (tie.spec
     enum-told
     write-requires
-    enum-known-verdict
-    enum-known-reason
-    refusal-requires
-    enum-known-reason-2
+    (λ c. search needs)
+    (λ c. search needs)
+    (λ c κs. search needs)
+    (λ c. search needs)
     write-requires-2
-    same-length
+    (λ c. search needs)
     returns
-    length-requires
-    same-length-2
+    (λ c κs. search needs)
+    (λ c. search needs)
     returns-2
     returns-3
     returns-4)

@@ -9,26 +9,11 @@ use borrow.Author.Needs.{needs}
 use Rattle.abi.proofs.module_call.Statement.{statement}
 use Rattle.abi.proofs.module_call.Tie as tie
 
-decode-requires : tie.Need-decode-requires
-decode-requires c κs = search needs
-
-call-requires : tie.Need-call-requires
-call-requires c κs = search needs
-
 keep-requires : tie.Need-keep-requires
 keep-requires c κs =
     let a = c .before .before .before .before .before .before .before .before .before .before .before .before .before .before .args in
     call-keepable (a .bytes .now) (a .area .now) (a .revision) (a .function) (a .request .now) (a .answer .now)
     (of-decoded (λ (d : Device). callResult d (a .area .now) (a .revision) (a .function) (a .request .now) (a .answer .now)) (c .before .before .before .before .before .before .before .before .decode .ensures) (c .before .before .before .before .before .call .ensures))
-
-same-length : tie.Need-same-length
-same-length c = search needs
-
-same-length-2 : tie.Need-same-length-2
-same-length-2 c = search needs
-
-same-length-3 : tie.Need-same-length-3
-same-length-3 c = search needs
 
 returns : tie.Need-returns
 returns c =
@@ -38,14 +23,15 @@ returns c =
     (of-decoded (λ (d : Device). callResult d (a .area .now) (a .revision) (a .function) (a .request .now) (a .answer .now)) (c .before .before .before .before .before .before .before .before .before .before .before .decode .ensures) (c .before .before .before .before .before .before .before .before .call .ensures))
     (passed-on (k .ok) (k .ensures .0), k .ensures .1)
 
+-- by search: decode-requires, call-requires, same-length, same-length-2, same-length-3
 pub module-call-spec : {M : Type 1} → statement M
 module-call-spec =
     tie.close
     (tie.spec
-    decode-requires
-    call-requires
+    (λ c κs. search needs)
+    (λ c κs. search needs)
     keep-requires
-    same-length
-    same-length-2
-    same-length-3
+    (λ c. search needs)
+    (λ c. search needs)
+    (λ c. search needs)
     returns)

@@ -11,20 +11,12 @@ use Rattle.abi.proofs.module_fresh.Tie as tie
 returns : tie.Need-returns
 returns c = not-made (c .before .before .args .bytes .now) (c .if1 .taken)
 
-fresh-requires : tie.Need-fresh-requires
-fresh-requires c κs = search needs
-
-write-requires : tie.Need-write-requires
-write-requires c κs = search needs
-
-same-length : tie.Need-same-length
-same-length c = search needs
-
 returns-2 : tie.Need-returns-2
 returns-2 c =
     let w = c .before .before .write in
     made (c .before .before .before .before .before .before .before .args .bytes .now) (c .before .before .before .before .before .if1 .left) (passed-on (w .ok) (w .ensures .0)) (w .ensures .1 ∙ ap encodeOf (c .before .before .before .before .fresh .ensures))
 
+-- by search: fresh-requires, write-requires, same-length
 pub module-fresh-spec : {M : Type 1} → statement M
 module-fresh-spec =
-    tie.close (tie.spec returns fresh-requires write-requires same-length returns-2)
+    tie.close (tie.spec returns (λ c κs. search needs) (λ c κs. search needs) (λ c. search needs) returns-2)

@@ -9,20 +9,11 @@ use borrow.Author.Needs.{needs}
 use Rattle.abi.proofs.module_power.Statement.{statement}
 use Rattle.abi.proofs.module_power.Tie as tie
 
-decode-requires : tie.Need-decode-requires
-decode-requires c κs = search needs
-
-power-requires : tie.Need-power-requires
-power-requires c κs = search needs
-
 keep-requires : tie.Need-keep-requires
 unfolding powerResult
 keep-requires c κs =
     let a = c .before .before .before .before .before .before .args in
     event-keepable (a .bytes .now) (a .area .now) _ (of-decoded (λ (d : Device). powerResult d (a .area .now)) (c .before .before .decode .ensures) (c .before .power .ensures))
-
-same-length : tie.Need-same-length
-same-length c = search needs
 
 returns : tie.Need-returns
 returns c =
@@ -32,6 +23,7 @@ returns c =
     (of-decoded (λ (d : Device). powerResult d (a .area .now)) (c .before .before .before .before .before .decode .ensures) (c .before .before .before .before .power .ensures))
     (passed-on (k .ok) (k .ensures .0), k .ensures .1)
 
+-- by search: decode-requires, power-requires, same-length
 pub module-power-spec : {M : Type 1} → statement M
 module-power-spec =
-    tie.close (tie.spec decode-requires power-requires keep-requires same-length returns)
+    tie.close (tie.spec (λ c κs. search needs) (λ c κs. search needs) keep-requires (λ c. search needs) returns)

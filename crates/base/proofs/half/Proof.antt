@@ -16,21 +16,6 @@ part c =
     let a = c .before .before .before .args in
     c .number .ensures ∙ ap (λ (k : ℕ). ofLe (take k (drop a.at a.s.now))) (add-sub-cancel-left a.at 2)
 
-add-e : tie.Need-add-e
-add-e c = search needs
-
-sub-number : tie.Need-sub-number
-sub-number c = search needs
-
-part-number-start : tie.Need-part-number-start
-part-number-start c = search needs
-
-part-number-end : tie.Need-part-number-end
-part-number-end c = search needs
-
-number-requires : tie.Need-number-requires
-number-requires c κs = search needs
-
 cast-result : tie.Need-cast-result
 cast-result c =
     let a = c .before .before .before .args in
@@ -39,14 +24,15 @@ cast-result c =
 returns : tie.Need-returns
 returns c = part c
 
+-- by search: add-e, sub-number, part-number-start, part-number-end, number-requires
 pub half-spec : {M : Type 1} → statement M
 half-spec =
     tie.close
     (tie.spec
-    add-e
-    sub-number
-    part-number-start
-    part-number-end
-    number-requires
+    (λ c. search needs)
+    (λ c. search needs)
+    (λ c. search needs)
+    (λ c. search needs)
+    (λ c κs. search needs)
     cast-result
     returns)

@@ -20,29 +20,17 @@ abbrev μ-loop : tie.MeasureT-loop
 loop-holds : tie.Need-loop-holds Inv-loop μ-loop
 loop-holds c = (search needs, sym (ap ofLe (drop-length (c .before .args .s .now))))
 
-sub-i : tie.Need-sub-i Inv-loop μ-loop
-sub-i c = search needs
-
 mul-n : tie.Need-mul-n Inv-loop μ-loop
 mul-n c =
     let s = c .before .before .before .args .s .now in
     let i = c .before .loop .i in
     omega (arith, ofLe-fits (drop i s) 7 (bytes-drop s i (c .before .before .shared-slice-known .given)) (simp length-drop (omega arith)))
 
-shared-slice-read-wide : tie.Need-shared-slice-read-wide Inv-loop μ-loop
-shared-slice-read-wide c = search needs
-
-wide-requires : tie.Need-wide-requires Inv-loop μ-loop
-wide-requires c κs = search needs
-
 add-n : tie.Need-add-n Inv-loop μ-loop
 add-n c =
     let s = c .before .before .before .before .before .args .s .now in
     let i = c .before .before .before .loop .i in
     omega (arith, c .wide .ensures, c .before .before .before .before .shared-slice-known .given (i - 1), ofLe-fits (drop i s) 7 (bytes-drop s i (c .before .before .before .before .shared-slice-known .given)) (simp length-drop (omega arith)))
-
-loop-less : tie.Need-loop-less Inv-loop μ-loop
-loop-less c = search needs
 
 loop-again : tie.Need-loop-again Inv-loop μ-loop
 loop-again c =
@@ -55,6 +43,7 @@ returns c =
     let at : c .before .loop .i ≡ 0 = omega arith in
     rw at at (c .before .loop .inv .1)
 
+-- by search: sub-i, shared-slice-read-wide, wide-requires, loop-less
 pub number-spec : {M : Type 1} → statement M
 number-spec =
     tie.close
@@ -62,11 +51,11 @@ number-spec =
     Inv-loop
     μ-loop
     loop-holds
-    sub-i
+    (λ c. search needs)
     mul-n
-    shared-slice-read-wide
-    wide-requires
+    (λ c. search needs)
+    (λ c κs. search needs)
     add-n
-    loop-less
+    (λ c. search needs)
     loop-again
     returns)

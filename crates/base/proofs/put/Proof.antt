@@ -21,27 +21,13 @@ abbrev μ-loop : tie.MeasureT-loop
 loop-holds : tie.Need-loop-holds Inv-loop μ-loop
 loop-holds c = (search needs, refl, ap (λ k. le k (c .args .n)) (sub-zero (length (c .args .out .now))))
 
-cast-out : tie.Need-cast-out Inv-loop μ-loop
-cast-out c = search needs
-
-slice-write-out : tie.Need-slice-write-out Inv-loop μ-loop
-slice-write-out c = search needs
-
-add-i : tie.Need-add-i Inv-loop μ-loop
-add-i c = search needs
-
-loop-less : tie.Need-loop-less Inv-loop μ-loop
-loop-less c = search needs
-
 loop-again : tie.Need-loop-again Inv-loop μ-loop
 loop-again c = (search needs, simp length-set (omega arith), put-on _ (c .before .loop .i) (length (c .before .before .args .out .now)) _ _ (c .before .loop .inv .1) (c .before .loop .inv .2) (omega arith))
-
-same-length : tie.Need-same-length Inv-loop μ-loop
-same-length c = search needs
 
 returns : tie.Need-returns Inv-loop μ-loop
 returns c = put-end _ (c .before .loop .i) (length (c .before .before .args .out .now)) _ _ (c .before .loop .inv .1) (c .before .loop .inv .2) (omega arith)
 
+-- by search: cast-out, slice-write-out, add-i, loop-less, same-length
 pub put-spec : {M : Type 1} → statement M
 put-spec =
     tie.close
@@ -49,10 +35,10 @@ put-spec =
     Inv-loop
     μ-loop
     loop-holds
-    cast-out
-    slice-write-out
-    add-i
-    loop-less
+    (λ c. search needs)
+    (λ c. search needs)
+    (λ c. search needs)
+    (λ c. search needs)
     loop-again
-    same-length
+    (λ c. search needs)
     returns)

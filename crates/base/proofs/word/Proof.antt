@@ -6,35 +6,14 @@ use borrow.Author.Needs.{needs}
 use Rattle.base.proofs.word.Statement.{statement}
 use Rattle.base.proofs.word.Tie as tie
 
-shared-slice-read-result : tie.Need-shared-slice-read-result
-shared-slice-read-result c = search needs
-
 cast-result : tie.Need-cast-result
 cast-result c = in-word _ (c .shared-slice-known .given (c .before .args .at))
-
-add-result : tie.Need-add-result
-add-result c = search needs
-
-shared-slice-read-result-2 : tie.Need-shared-slice-read-result-2
-shared-slice-read-result-2 c = search needs
 
 cast-result-2 : tie.Need-cast-result-2
 cast-result-2 c = in-word _ (c .shared-slice-known2 .given (c .before .before .args .at + 1))
 
-add-result-2 : tie.Need-add-result-2
-add-result-2 c = search needs
-
-shared-slice-read-result-3 : tie.Need-shared-slice-read-result-3
-shared-slice-read-result-3 c = search needs
-
 cast-result-3 : tie.Need-cast-result-3
 cast-result-3 c = in-word _ (c .shared-slice-known3 .given (c .before .before .before .args .at + 2))
-
-add-result-3 : tie.Need-add-result-3
-add-result-3 c = search needs
-
-shared-slice-read-result-4 : tie.Need-shared-slice-read-result-4
-shared-slice-read-result-4 c = search needs
 
 cast-result-4 : tie.Need-cast-result-4
 cast-result-4 c = in-word _ (c .shared-slice-known4 .given (c .before .before .before .before .args .at + 3))
@@ -44,19 +23,21 @@ returns c =
     let a = c .before .before .before .before .args in
     four (a .s .now) (a .at) (c .shared-slice-known4 .given) (c .before .before .before .before .pre)
 
+-- by search: shared-slice-read-result, add-result, shared-slice-read-result-2, add-result-2, shared-slice-read-result-3, add-result-3,
+-- shared-slice-read-result-4
 pub word-spec : {M : Type 1} → statement M
 word-spec =
     tie.close
     (tie.spec
-    shared-slice-read-result
+    (λ c. search needs)
     cast-result
-    add-result
-    shared-slice-read-result-2
+    (λ c. search needs)
+    (λ c. search needs)
     cast-result-2
-    add-result-2
-    shared-slice-read-result-3
+    (λ c. search needs)
+    (λ c. search needs)
     cast-result-3
-    add-result-3
-    shared-slice-read-result-4
+    (λ c. search needs)
+    (λ c. search needs)
     cast-result-4
     returns)

@@ -9,12 +9,6 @@ use borrow.Author.Needs.{needs}
 use Rattle.module.proofs.call.Statement.{statement}
 use Rattle.module.proofs.call.Tie as tie
 
-look-up-requires : tie.Need-look-up-requires
-look-up-requires c κs = search needs
-
-judge-requires : tie.Need-judge-requires
-judge-requires c κs = search needs
-
 enum-told : tie.Need-enum-told
 enum-told c = search needs
 
@@ -32,24 +26,6 @@ change-requires c κs =
     let judged = c .before .before .before .before .before .before .before .judge .ensures in
     let e = sym judged ∙ c .before .before .before .before .before .enum-told .given .1 in
     (sound (a .d) (a .area .now) (a .revision) (a .function) (a .request .now) (a .answer .now) (row .result) (row .ensures) Accepted e tt .whole, (fits (a .d) (a .area .now) (a .revision) (a .function) (a .request .now) (a .answer .now) (row .result) (row .ensures) e, own-checks (a .d) (a .area .now) (a .revision) (a .function) (a .request .now) (a .answer .now) (row .result) (row .ensures) e))
-
-result-requires : tie.Need-result-requires
-result-requires c κs = search needs
-
-enum-known-verdict : tie.Need-enum-known-verdict
-enum-known-verdict c = search needs
-
-enum-told-2 : tie.Need-enum-told-2
-enum-told-2 c = search needs
-
-result-requires-2 : tie.Need-result-requires-2
-result-requires-2 c κs = search needs
-
-enum-known-refusal : tie.Need-enum-known-refusal
-enum-known-refusal c = search needs
-
-status-length-requires : tie.Need-status-length-requires
-status-length-requires c κs = search needs
 
 put-status-requires : tie.Need-put-status-requires
 put-status-requires c κs =
@@ -69,15 +45,6 @@ left-requires c κs =
     let e = sym judged ∙ c .before .before .before .before .before .before .before .before .before .verdict .given .1 ∙ ap Refused (c .before .before .before .before .before .before .refusal .given .1) in
     attempts-most (a .d) (sound (a .d) (a .area .now) (a .revision) (a .function) (a .request .now) (a .answer .now) (row .result) (row .ensures) _ e tt .sound)
 
-result-requires-3 : tie.Need-result-requires-3
-result-requires-3 c κs = search needs
-
-same-length : tie.Need-same-length
-same-length c = search needs
-
-same-length-2 : tie.Need-same-length-2
-same-length-2 c = search needs
-
 returns : tie.Need-returns
 returns c =
     let a = c .before .before .before .before .before .before .before .before .before .before .before .before .before .before .before .before .before .before .args in
@@ -87,24 +54,12 @@ returns c =
     as-accepted (a .d) (a .area .now) (a .revision) (a .function) (a .request .now) (a .answer .now) (row .result) (row .ensures) judged (c .before .before .before .before .before .before .before .before .before .enum-told .given .1) (c .result .ensures) (changed .0) (changed .1)
     (c .before .before .before .before .before .before .before .put-accepted .ensures (a .request .now))
 
-same-length-3 : tie.Need-same-length-3
-same-length-3 c = search needs
-
-same-length-4 : tie.Need-same-length-4
-same-length-4 c = search needs
-
 returns-2 : tie.Need-returns-2
 returns-2 c =
     let a = c .before .before .before .before .before .before .before .before .before .before .before .before .before .args in
     let row = c .before .before .before .before .before .before .before .before .before .look-up in
     let judged = c .before .before .before .before .before .before .judge .ensures in
     as-R (a .d) (a .area .now) (a .revision) (a .function) (a .request .now) (a .answer .now) (row .result) (row .ensures) _ (sym (c .before .before .before .before .verdict .given .1) ∙ judged) (ap Refused (c .before .enum-told2 .given .1)) (c .result2 .ensures)
-
-same-length-5 : tie.Need-same-length-5
-same-length-5 c = search needs
-
-same-length-6 : tie.Need-same-length-6
-same-length-6 c = search needs
 
 returns-3 : tie.Need-returns-3
 returns-3 c =
@@ -114,30 +69,32 @@ returns-3 c =
     as-status (a .d) (a .area .now) (a .revision) (a .function) (a .request .now) (a .answer .now) (row .result) (row .ensures) _ _ _ (sym (c .before .before .before .before .before .before .before .before .before .before .before .verdict .given .1) ∙ judged) (ap Refused (c .before .before .before .before .before .before .before .before .refusal .given .1)) (c .result3 .ensures) (c .before .before .before .before .before .before .status-length .ensures) (c .before .left .ensures)
     (c .before .before .before .before .put-status .ensures)
 
+-- by search: look-up-requires, judge-requires, result-requires, enum-known-verdict, enum-told-2, result-requires-2, enum-known-refusal,
+-- status-length-requires, result-requires-3, same-length, same-length-2, same-length-3, same-length-4, same-length-5, same-length-6
 pub call-spec : {M : Type 1} → statement M
 call-spec =
     tie.close
     (tie.spec
-    look-up-requires
-    judge-requires
+    (λ c κs. search needs)
+    (λ c κs. search needs)
     enum-told
     put-accepted-requires
     change-requires
-    result-requires
-    enum-known-verdict
-    enum-told-2
-    result-requires-2
-    enum-known-refusal
-    status-length-requires
+    (λ c κs. search needs)
+    (λ c. search needs)
+    (λ c. search needs)
+    (λ c κs. search needs)
+    (λ c. search needs)
+    (λ c κs. search needs)
     put-status-requires
     left-requires
-    result-requires-3
-    same-length
-    same-length-2
+    (λ c κs. search needs)
+    (λ c. search needs)
+    (λ c. search needs)
     returns
-    same-length-3
-    same-length-4
+    (λ c. search needs)
+    (λ c. search needs)
     returns-2
-    same-length-5
-    same-length-6
+    (λ c. search needs)
+    (λ c. search needs)
     returns-3)

@@ -14,26 +14,8 @@ use Rattle.module.proofs.power.Tie as tie
 abbrev powered : Device → Device
 powered d = d with-transfer (transferPower (d .transfer)) with-security (securityPower (d .security))
 
-judge-event-requires : tie.Need-judge-event-requires
-judge-event-requires c κs = search needs
-
 enum-told : tie.Need-enum-told
 enum-told c = search needs
-
-power-requires : tie.Need-power-requires
-power-requires c κs = search needs
-
-power-requires-2 : tie.Need-power-requires-2
-power-requires-2 c κs = search needs
-
-result-requires : tie.Need-result-requires
-result-requires c κs = search needs
-
-enum-told-2 : tie.Need-enum-told-2
-enum-told-2 c = search needs
-
-result-requires-2 : tie.Need-result-requires-2
-result-requires-2 c κs = search needs
 
 returns : tie.Need-returns
 unfolding powerResult
@@ -48,16 +30,17 @@ returns-2 c =
     let a = c .before .before .before .before .before .args in
     as-left (powered (a .d)) (a .d) (a .area .now) _ (c .before .before .before .judge-event .ensures) (c .before .enum-told2 .given .1) (c .result2 .ensures)
 
+-- by search: judge-event-requires, power-requires, power-requires-2, result-requires, enum-told-2, result-requires-2
 pub power-spec : {M : Type 1} → statement M
 power-spec =
     tie.close
     (tie.spec
-    judge-event-requires
+    (λ c κs. search needs)
     enum-told
-    power-requires
-    power-requires-2
-    result-requires
-    enum-told-2
-    result-requires-2
+    (λ c κs. search needs)
+    (λ c κs. search needs)
+    (λ c κs. search needs)
+    (λ c. search needs)
+    (λ c κs. search needs)
     returns
     returns-2)

@@ -13,9 +13,6 @@ use borrow.Author.Needs.{needs}
 use Rattle.module.proofs.tick.Statement.{statement}
 use Rattle.module.proofs.tick.Tie as tie
 
-judge-event-requires : tie.Need-judge-event-requires
-judge-event-requires c κs = search needs
-
 enum-told : tie.Need-enum-told
 enum-told c = search needs
 
@@ -24,15 +21,6 @@ tick-requires c κs =
     let a = c .before .before .before .before .args in
     let s = event-through (a .d) (a .area .now) [] _ (sym (c .before .before .judge-event .ensures) ∙ c .enum-told .given .1) tt .0 in
     omega (arith, received-most (a .d) (s .sound), s .whole)
-
-result-requires : tie.Need-result-requires
-result-requires c κs = search needs
-
-enum-told-2 : tie.Need-enum-told-2
-enum-told-2 c = search needs
-
-result-requires-2 : tie.Need-result-requires-2
-result-requires-2 c κs = search needs
 
 returns : tie.Need-returns
 unfolding tickResult
@@ -47,15 +35,16 @@ returns-2 c =
     let a = c .before .before .before .before .before .args in
     as-left (a .d with-transfer (tickChange (a .d .transfer) (a .area .now))) (a .d) (a .area .now) _ (c .before .before .before .judge-event .ensures) (c .before .enum-told2 .given .1) (c .result2 .ensures)
 
+-- by search: judge-event-requires, result-requires, enum-told-2, result-requires-2
 pub tick-spec : {M : Type 1} → statement M
 tick-spec =
     tie.close
     (tie.spec
-    judge-event-requires
+    (λ c κs. search needs)
     enum-told
     tick-requires
-    result-requires
-    enum-told-2
-    result-requires-2
+    (λ c κs. search needs)
+    (λ c. search needs)
+    (λ c κs. search needs)
     returns
     returns-2)

@@ -9,18 +9,6 @@ use borrow.Author.Needs.{needs}
 use Rattle.record.proofs.all_zero.Statement.{statement}
 use Rattle.record.proofs.all_zero.Tie as tie
 
-long-requires : tie.Need-long-requires
-long-requires c κs = search needs
-
-long-requires-2 : tie.Need-long-requires-2
-long-requires-2 c κs = search needs
-
-long-requires-3 : tie.Need-long-requires-3
-long-requires-3 c κs = search needs
-
-long-requires-4 : tie.Need-long-requires-4
-long-requires-4 c κs = search needs
-
 returns : tie.Need-returns
 returns c =
     let k = c .before .before .before .before .before in
@@ -28,6 +16,7 @@ returns c =
     zero-more 0 24 8 s (zero-more 0 16 8 s (zero-more 0 8 8 s (zero-first 0 8 s (c .before .before .before .long .ensures)) (c .before .before .long2 .ensures)) (c .before .long3 .ensures)) (c .long4 .ensures)
     ∙ ap zeros? (take-all 32 s (omega (arith, k .pre)))
 
+-- by search: long-requires, long-requires-2, long-requires-3, long-requires-4
 pub all-zero-spec : {M : Type 1} → statement M
 all-zero-spec =
-    tie.close (tie.spec long-requires long-requires-2 long-requires-3 long-requires-4 returns)
+    tie.close (tie.spec (λ c κs. search needs) (λ c κs. search needs) (λ c κs. search needs) (λ c κs. search needs) returns)

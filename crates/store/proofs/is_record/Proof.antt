@@ -11,42 +11,22 @@ returns : tie.Need-returns
 unfolding record?
 returns c = simp (ne-eqb _ 128 (c .if1 .taken))
 
-byte-requires : tie.Need-byte-requires
-byte-requires c κs = search needs
-
-byte-requires-2 : tie.Need-byte-requires-2
-byte-requires-2 c κs = search needs
-
-byte-requires-3 : tie.Need-byte-requires-3
-byte-requires-3 c κs = search needs
-
-byte-requires-4 : tie.Need-byte-requires-4
-byte-requires-4 c κs = search needs
-
-byte-requires-5 : tie.Need-byte-requires-5
-byte-requires-5 c κs = search needs
-
-zero-between-requires : tie.Need-zero-between-requires
-zero-between-requires c κs = search needs
-
-zero-after-requires : tie.Need-zero-after-requires
-zero-after-requires c κs = search needs
-
 returns-2 : tie.Need-returns-2
 returns-2 c =
     tested (c .before .before .before .before .before .before .before .before .before .args .s .now) (c .before .before .before .before .before .before .before .if1 .left) (c .before .before .before .before .before .before .byte .ensures) (c .before .before .before .before .before .byte2 .ensures) (c .before .before .before .before .byte3 .ensures) (c .before .before .before .byte4 .ensures) (c .before .before .byte5 .ensures)
     (c .before .zero-between .ensures) (c .zero-after .ensures)
 
+-- by search: byte-requires, byte-requires-2, byte-requires-3, byte-requires-4, byte-requires-5, zero-between-requires, zero-after-requires
 pub is-record-spec : {M : Type 1} → statement M
 is-record-spec =
     tie.close
     (tie.spec
     returns
-    byte-requires
-    byte-requires-2
-    byte-requires-3
-    byte-requires-4
-    byte-requires-5
-    zero-between-requires
-    zero-after-requires
+    (λ c κs. search needs)
+    (λ c κs. search needs)
+    (λ c κs. search needs)
+    (λ c κs. search needs)
+    (λ c κs. search needs)
+    (λ c κs. search needs)
+    (λ c κs. search needs)
     returns-2)

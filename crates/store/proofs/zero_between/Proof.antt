@@ -5,23 +5,12 @@ use borrow.Author.Needs.{needs}
 use Rattle.store.proofs.zero_between.Statement.{statement}
 use Rattle.store.proofs.zero_between.Tie as tie
 
-half-requires : tie.Need-half-requires
-half-requires c κs = search needs
-
-long-requires : tie.Need-long-requires
-long-requires c κs = search needs
-
-long-requires-2 : tie.Need-long-requires-2
-long-requires-2 c κs = search needs
-
-long-requires-3 : tie.Need-long-requires-3
-long-requires-3 c κs = search needs
-
 returns : tie.Need-returns
 returns c =
     let s = c .before .before .before .before .before .args .s .now in
     zero-more 38 18 8 s (zero-more 38 10 8 s (zero-more 38 2 8 s (zero-first 38 2 s (c .before .before .before .half .ensures)) (c .before .before .long .ensures)) (c .before .long2 .ensures)) (c .long3 .ensures)
 
+-- by search: half-requires, long-requires, long-requires-2, long-requires-3
 pub zero-between-spec : {M : Type 1} → statement M
 zero-between-spec =
-    tie.close (tie.spec half-requires long-requires long-requires-2 long-requires-3 returns)
+    tie.close (tie.spec (λ c κs. search needs) (λ c κs. search needs) (λ c κs. search needs) (λ c κs. search needs) returns)
