@@ -1,6 +1,6 @@
 -- A number put together from its bytes by shifts is the number that the bytes are.
 -- Assumes nothing.
-use mathlib.Core.Path.{_≡_, sym, _∙_, ap}
+use mathlib.Core.Path.{_≡_, refl, _∙_, ap}
 use mathlib.Core.List.{List}
 use Prim.Native.Nat.{ℕ, suc, _≤_, _<_, _+_, _*_, _^_, _%_}
 use native.Mathlib.Nat.{add-comm}
@@ -26,18 +26,17 @@ first k i j s h e =
     ap (λ (l : List ℕ). ofLe (take (suc k) l)) (drop-cons s i 0 h) ∙ ap (λ (n : ℕ). getD s i 0 + 256 * ofLe (take k (drop n s))) e
 
 -- a byte above the k bits of a number is added to it
-next : (k m n x : ℕ) → n < 2 ^ k → x * 2 ^ k % m ≡ x * 2 ^ k → bitOr n (x * 2 ^ k % m) ≡ n + x * 2 ^ k
-next k m n x h e = ap (bitOr n) e ∙ or-shifted-r x k n h ∙ add-comm (x * 2 ^ k) n
+above : (k m l x : ℕ) {n : ℕ} → l < 2 ^ k → x * 2 ^ k % m ≡ x * 2 ^ k → n ≡ l → bitOr n (x * 2 ^ k % m) ≡ l + x * 2 ^ k
+above k m l x h f e = (λ i. bitOr (e i) (f i)) ∙ or-shifted-r x k l h ∙ add-comm (x * 2 ^ k) l
 
 -- four bytes, each shifted above those before it
 four-shifted : (x0 x1 x2 x3 : ℕ) → x0 < 256 → x1 < 256 → x2 < 256 → x3 < 256
     → bitOr (bitOr (bitOr x0 (x1 * 2 ^ 8 % 2 ^ 32)) (x2 * 2 ^ 16 % 2 ^ 32)) (x3 * 2 ^ 24 % 2 ^ 32)
     ≡ x0 + x1 * 2 ^ 8 + x2 * 2 ^ 16 + x3 * 2 ^ 24
 four-shifted x0 x1 x2 x3 h0 h1 h2 h3 =
-    let e1 : bitOr x0 (x1 * 2 ^ 8 % 2 ^ 32) ≡ x0 + x1 * 2 ^ 8 = next 8 (2 ^ 32) (x0) x1 (omega arith) (omega arith) in
-    let e2 : bitOr (bitOr x0 (x1 * 2 ^ 8 % 2 ^ 32)) (x2 * 2 ^ 16 % 2 ^ 32) ≡ x0 + x1 * 2 ^ 8 + x2 * 2 ^ 16 = ap (λ (n : ℕ). bitOr n (x2 * 2 ^ 16 % 2 ^ 32)) e1 ∙ next 16 (2 ^ 32) (x0 + x1 * 2 ^ 8) x2 (omega arith) (omega arith) in
-    let e3 : bitOr (bitOr (bitOr x0 (x1 * 2 ^ 8 % 2 ^ 32)) (x2 * 2 ^ 16 % 2 ^ 32)) (x3 * 2 ^ 24 % 2 ^ 32) ≡ x0 + x1 * 2 ^ 8 + x2 * 2 ^ 16 + x3 * 2 ^ 24 = ap (λ (n : ℕ). bitOr n (x3 * 2 ^ 24 % 2 ^ 32)) e2 ∙ next 24 (2 ^ 32) (x0 + x1 * 2 ^ 8 + x2 * 2 ^ 16) x3 (omega arith) (omega arith) in
-    e3
+    above 24 (2 ^ 32) (x0 + x1 * 2 ^ 8 + x2 * 2 ^ 16) x3 (omega arith) (omega arith)
+    (above 16 (2 ^ 32) (x0 + x1 * 2 ^ 8) x2 (omega arith) (omega arith)
+    (above 8 (2 ^ 32) x0 x1 (omega arith) (omega arith) refl))
 
 -- the four bytes at a place, so put together, are the number there
 pub four : (s : List ℕ) (at : ℕ) → Bytes s → at + 4 ≤ length s
@@ -56,14 +55,13 @@ eight-shifted : (x0 x1 x2 x3 x4 x5 x6 x7 : ℕ) → x0 < 256 → x1 < 256 → x2
     → bitOr (bitOr (bitOr (bitOr (bitOr (bitOr (bitOr x0 (x1 * 2 ^ 8 % 2 ^ 64)) (x2 * 2 ^ 16 % 2 ^ 64)) (x3 * 2 ^ 24 % 2 ^ 64)) (x4 * 2 ^ 32 % 2 ^ 64)) (x5 * 2 ^ 40 % 2 ^ 64)) (x6 * 2 ^ 48 % 2 ^ 64)) (x7 * 2 ^ 56 % 2 ^ 64)
     ≡ x0 + x1 * 2 ^ 8 + x2 * 2 ^ 16 + x3 * 2 ^ 24 + x4 * 2 ^ 32 + x5 * 2 ^ 40 + x6 * 2 ^ 48 + x7 * 2 ^ 56
 eight-shifted x0 x1 x2 x3 x4 x5 x6 x7 h0 h1 h2 h3 h4 h5 h6 h7 =
-    let e1 : bitOr x0 (x1 * 2 ^ 8 % 2 ^ 64) ≡ x0 + x1 * 2 ^ 8 = next 8 (2 ^ 64) (x0) x1 (omega arith) (omega arith) in
-    let e2 : bitOr (bitOr x0 (x1 * 2 ^ 8 % 2 ^ 64)) (x2 * 2 ^ 16 % 2 ^ 64) ≡ x0 + x1 * 2 ^ 8 + x2 * 2 ^ 16 = ap (λ (n : ℕ). bitOr n (x2 * 2 ^ 16 % 2 ^ 64)) e1 ∙ next 16 (2 ^ 64) (x0 + x1 * 2 ^ 8) x2 (omega arith) (omega arith) in
-    let e3 : bitOr (bitOr (bitOr x0 (x1 * 2 ^ 8 % 2 ^ 64)) (x2 * 2 ^ 16 % 2 ^ 64)) (x3 * 2 ^ 24 % 2 ^ 64) ≡ x0 + x1 * 2 ^ 8 + x2 * 2 ^ 16 + x3 * 2 ^ 24 = ap (λ (n : ℕ). bitOr n (x3 * 2 ^ 24 % 2 ^ 64)) e2 ∙ next 24 (2 ^ 64) (x0 + x1 * 2 ^ 8 + x2 * 2 ^ 16) x3 (omega arith) (omega arith) in
-    let e4 : bitOr (bitOr (bitOr (bitOr x0 (x1 * 2 ^ 8 % 2 ^ 64)) (x2 * 2 ^ 16 % 2 ^ 64)) (x3 * 2 ^ 24 % 2 ^ 64)) (x4 * 2 ^ 32 % 2 ^ 64) ≡ x0 + x1 * 2 ^ 8 + x2 * 2 ^ 16 + x3 * 2 ^ 24 + x4 * 2 ^ 32 = ap (λ (n : ℕ). bitOr n (x4 * 2 ^ 32 % 2 ^ 64)) e3 ∙ next 32 (2 ^ 64) (x0 + x1 * 2 ^ 8 + x2 * 2 ^ 16 + x3 * 2 ^ 24) x4 (omega arith) (omega arith) in
-    let e5 : bitOr (bitOr (bitOr (bitOr (bitOr x0 (x1 * 2 ^ 8 % 2 ^ 64)) (x2 * 2 ^ 16 % 2 ^ 64)) (x3 * 2 ^ 24 % 2 ^ 64)) (x4 * 2 ^ 32 % 2 ^ 64)) (x5 * 2 ^ 40 % 2 ^ 64) ≡ x0 + x1 * 2 ^ 8 + x2 * 2 ^ 16 + x3 * 2 ^ 24 + x4 * 2 ^ 32 + x5 * 2 ^ 40 = ap (λ (n : ℕ). bitOr n (x5 * 2 ^ 40 % 2 ^ 64)) e4 ∙ next 40 (2 ^ 64) (x0 + x1 * 2 ^ 8 + x2 * 2 ^ 16 + x3 * 2 ^ 24 + x4 * 2 ^ 32) x5 (omega arith) (omega arith) in
-    let e6 : bitOr (bitOr (bitOr (bitOr (bitOr (bitOr x0 (x1 * 2 ^ 8 % 2 ^ 64)) (x2 * 2 ^ 16 % 2 ^ 64)) (x3 * 2 ^ 24 % 2 ^ 64)) (x4 * 2 ^ 32 % 2 ^ 64)) (x5 * 2 ^ 40 % 2 ^ 64)) (x6 * 2 ^ 48 % 2 ^ 64) ≡ x0 + x1 * 2 ^ 8 + x2 * 2 ^ 16 + x3 * 2 ^ 24 + x4 * 2 ^ 32 + x5 * 2 ^ 40 + x6 * 2 ^ 48 = ap (λ (n : ℕ). bitOr n (x6 * 2 ^ 48 % 2 ^ 64)) e5 ∙ next 48 (2 ^ 64) (x0 + x1 * 2 ^ 8 + x2 * 2 ^ 16 + x3 * 2 ^ 24 + x4 * 2 ^ 32 + x5 * 2 ^ 40) x6 (omega arith) (omega arith) in
-    let e7 : bitOr (bitOr (bitOr (bitOr (bitOr (bitOr (bitOr x0 (x1 * 2 ^ 8 % 2 ^ 64)) (x2 * 2 ^ 16 % 2 ^ 64)) (x3 * 2 ^ 24 % 2 ^ 64)) (x4 * 2 ^ 32 % 2 ^ 64)) (x5 * 2 ^ 40 % 2 ^ 64)) (x6 * 2 ^ 48 % 2 ^ 64)) (x7 * 2 ^ 56 % 2 ^ 64) ≡ x0 + x1 * 2 ^ 8 + x2 * 2 ^ 16 + x3 * 2 ^ 24 + x4 * 2 ^ 32 + x5 * 2 ^ 40 + x6 * 2 ^ 48 + x7 * 2 ^ 56 = ap (λ (n : ℕ). bitOr n (x7 * 2 ^ 56 % 2 ^ 64)) e6 ∙ next 56 (2 ^ 64) (x0 + x1 * 2 ^ 8 + x2 * 2 ^ 16 + x3 * 2 ^ 24 + x4 * 2 ^ 32 + x5 * 2 ^ 40 + x6 * 2 ^ 48) x7 (omega arith) (omega arith) in
-    e7
+    above 56 (2 ^ 64) (x0 + x1 * 2 ^ 8 + x2 * 2 ^ 16 + x3 * 2 ^ 24 + x4 * 2 ^ 32 + x5 * 2 ^ 40 + x6 * 2 ^ 48) x7 (omega arith) (omega arith)
+    (above 48 (2 ^ 64) (x0 + x1 * 2 ^ 8 + x2 * 2 ^ 16 + x3 * 2 ^ 24 + x4 * 2 ^ 32 + x5 * 2 ^ 40) x6 (omega arith) (omega arith)
+    (above 40 (2 ^ 64) (x0 + x1 * 2 ^ 8 + x2 * 2 ^ 16 + x3 * 2 ^ 24 + x4 * 2 ^ 32) x5 (omega arith) (omega arith)
+    (above 32 (2 ^ 64) (x0 + x1 * 2 ^ 8 + x2 * 2 ^ 16 + x3 * 2 ^ 24) x4 (omega arith) (omega arith)
+    (above 24 (2 ^ 64) (x0 + x1 * 2 ^ 8 + x2 * 2 ^ 16) x3 (omega arith) (omega arith)
+    (above 16 (2 ^ 64) (x0 + x1 * 2 ^ 8) x2 (omega arith) (omega arith)
+    (above 8 (2 ^ 64) x0 x1 (omega arith) (omega arith) refl))))))
 
 -- the eight bytes at a place, so put together, are the number there
 pub eight : (s : List ℕ) (at : ℕ) → Bytes s → at + 8 ≤ length s

@@ -1,7 +1,7 @@
 -- Bytes are zero where the numbers in them are, so that a few numbers tell what many bytes would.
 -- Assumes nothing.
 use mathlib.Core.Path.{_≡_, refl, sym, _∙_, ap}
-use mathlib.Core.Bool.{Bool, true, false, _&&_}
+use mathlib.Core.Bool.{Bool, _&&_}
 use mathlib.Core.List.{List, [], _∷_, _++_}
 use Prim.Native.Nat.{ℕ, zero, suc, _+_, _*_}
 use native.Mathlib.Omega.{arith}
@@ -10,6 +10,7 @@ use lib.ListN.{take, drop}
 use lib.Seq.{take-add, drop-drop}
 use borrow.Author.Tests.{ne-eqb}
 use Rattle.rules.specs.Bytes.{ofLe, numberAt, zeros?}
+use Rattle.base.proofs.Laws.{and-assoc}
 
 -- a byte and a number above it are zero together
 both : (x n : ℕ) → eqb (x + 256 * n) 0 ≡ (eqb x 0 && eqb n 0)
@@ -23,14 +24,10 @@ unfolding zeros?
 zeros-number [] = refl
 zeros-number (x ∷ xs) = ap (λ (t : Bool). eqb x 0 && t) (zeros-number xs) ∙ sym (both x (ofLe xs))
 
-and-assoc : (a b c : Bool) → (a && (b && c)) ≡ ((a && b) && c)
-and-assoc true b c = refl
-and-assoc false b c = refl
-
 zeros-append : (a b : List ℕ) → zeros? (a ++ b) ≡ (zeros? a && zeros? b)
 unfolding zeros?
 zeros-append [] b = refl
-zeros-append (x ∷ xs) b = ap (λ (t : Bool). eqb x 0 && t) (zeros-append xs b) ∙ and-assoc (eqb x 0) (zeros? xs) (zeros? b)
+zeros-append (x ∷ xs) b = ap (λ (t : Bool). eqb x 0 && t) (zeros-append xs b) ∙ sym (and-assoc (eqb x 0) (zeros? xs) (zeros? b))
 
 -- the first number
 pub zero-first : (at k : ℕ) (s : List ℕ) {r : ℕ} → r ≡ numberAt k at s → eqb r 0 ≡ zeros? (take k (drop at s))
