@@ -1,4 +1,3 @@
-pub mod CallLine
 pub mod AnyBuffer
 pub mod Steps
 pub mod Found

@@ -1,100 +1,20 @@
 // The replay of a log: what each record does to the module, and the text of it, written into a lent buffer.
 ghost use mathlib.Core.Path.{_≡_};
-ghost use mathlib.Core.Bool.{true};
 ghost use Prim.Native.Nat.{_+_, _*_, _^_, _≤_, _<_};
 ghost use lib.ListN.{length};
 ghost use Rattle.rules.specs.Text.{field};
 ghost use Rattle.rules.specs.Module.{after, tickResult, powerResult};
 ghost use Rattle.rules.specs.Log.{entryOf, recordsIn};
-ghost use Rattle.rules.specs.Replay.{replayCall, printedStatus, printedExt, callLine, heading, tailLine, lastLine};
-ghost use Rattle.text.specs.Wrote.{Wrote};
+ghost use Rattle.rules.specs.Replay.{replayCall};
 ghost use Rattle.replay.specs.Replayed.{Replayed, CallReplayed, RecordReplayed, PlaceReplayed, PartReplayed, moduleOf};
 use reader::Found;
 use rules::Device;
 use rules::Entry;
-use rules::Refusal;
-use rules::Reply;
-use rules::Verdict;
 
 // The place after what was written, and the record after what was played.
 pub struct Played {
     pub at: usize,
     pub device: Device,
-}
-
-pub fn put_heading(out: &mut [u8], at: usize) -> usize
-    requires { ⌜ at + 96 ≤ length (now out) ⌝ }
-    ensures { λ r. ⌜ r ≤ at + 96 ⌝ }
-    ensures { λ r. ⌜ Wrote (now (out .entry)) at heading (now (out .exit)) r ⌝ }
-{
-    text::put(out, at, b"record kind status ext length\n")
-}
-
-// The line of a tail that is no whole record.
-pub fn put_tail(out: &mut [u8], at: usize, number: u64) -> usize
-    requires { ⌜ at + 96 ≤ length (now out) ⌝ }
-    ensures { λ r. ⌜ r ≤ at + 96 ⌝ }
-    ensures { λ r. ⌜ Wrote (now (out .entry)) at (tailLine number true) (now (out .exit)) r ⌝ }
-{
-    text::put_field(out, at, number, b" short\n")
-}
-
-pub fn put_last(out: &mut [u8], at: usize, d: Device) -> usize
-    requires { ⌜ at + 96 ≤ length (now out) ⌝ }
-    ensures { λ r. ⌜ r ≤ at + 96 ⌝ }
-    ensures { λ r. ⌜ Wrote (now (out .entry)) at (lastLine d) (now (out .exit)) r ⌝ }
-{
-    let transfer = d.transfer;
-    let phase = transfer.phase;
-    let named = text::put(out, at, b"end ");
-    let spaced = text::put_phase(out, named, phase);
-    let counted = text::put(out, spaced, b" ");
-    text::put_field(out, counted, transfer.contexts as u64, b"\n")
-}
-
-fn printed_status(verdict: Verdict) -> u64
-    ensures { λ r. ⌜ r ≡ printedStatus verdict ⌝ }
-{
-    match verdict {
-        Verdict::Accepted => 0,
-        Verdict::Refused(refusal) => match refusal {
-            Refusal::R { number } => number as u64,
-            Refusal::Status { status, ext: _ } => status as u64,
-        },
-    }
-}
-
-fn printed_ext(verdict: Verdict) -> u64
-    ensures { λ r. ⌜ r ≡ printedExt verdict ⌝ }
-{
-    match verdict {
-        Verdict::Accepted => 0,
-        Verdict::Refused(refusal) => match refusal {
-            Refusal::R { number: _ } => 0,
-            Refusal::Status { status: _, ext } => ext as u64,
-        },
-    }
-}
-
-// The line of a call. Function 0 has no status to print.
-fn put_call(out: &mut [u8], at: usize, number: u64, function: u64, reply: Reply) -> usize
-    requires { ⌜ at + 96 ≤ length (now out) ⌝ }
-    ensures { λ r. ⌜ r ≤ at + 96 ⌝ }
-    ensures { λ r. ⌜ Wrote (now (out .entry)) at (callLine number function reply) (now (out .exit)) r ⌝ }
-{
-    let verdict = reply.verdict;
-    let length = reply.length as u64;
-    let mask = function == 0;
-    if mask {
-        let next = text::put_field(out, at, number, b" call - - ");
-        return text::put_field(out, next, length, b"\n");
-    }
-    let status = printed_status(verdict);
-    let ext = printed_ext(verdict);
-    let a = text::put_field(out, at, number, b" call ");
-    let b = text::put_field(out, a, status, b" ");
-    let c = text::put_field(out, b, ext, b" ");
-    text::put_field(out, c, length, b"\n")
 }
 
 // The answer buffer is lent by the caller, so that it is made once for a log.
@@ -117,7 +37,7 @@ fn play_call(
     let outcome = module::call(d, area, revision, function, request, answer);
     let reply = outcome.reply;
     let device = outcome.device;
-    let next = put_call(out, at, number, function, reply);
+    let next = lines::put_call(out, at, number, function, reply);
     Played { at: next, device }
 }
 
@@ -234,7 +154,7 @@ pub fn play_at(
             play_entry(out, at, number, d, area, answer, entry, &log[start..end])
         }
         Found::Short => {
-            let next = put_tail(out, at, number);
+            let next = lines::put_tail(out, at, number);
             Played {
                 at: next,
                 device: d,

@@ -9,19 +9,19 @@ use replay::Played;
 use rules::Device;
 
 fn show_heading(out: &mut [u8; 12288]) -> bool {
-    let end = replay::put_heading(out, 0);
+    let end = lines::put_heading(out, 0);
     files::show(out, end)
 }
 
 // The line of a short tail, if there is one, and the last line.
 fn show_end(out: &mut [u8; 12288], number: u64, short: bool, d: Device) {
     if short {
-        let tail = replay::put_tail(out, 0, number);
-        let end = replay::put_last(out, tail, d);
+        let tail = lines::put_tail(out, 0, number);
+        let end = lines::put_last(out, tail, d);
         files::show(out, end);
         return;
     }
-    let end = replay::put_last(out, 0, d);
+    let end = lines::put_last(out, 0, d);
     files::show(out, end);
 }
 

@@ -1,9 +1,9 @@
--- `replay::put_last` meets its contract: the four parts of the line are written one after the other.
+-- `lines::put_last` meets its contract: the four parts of the line are written one after the other.
 use native.Mathlib.Omega.{arith}
 use borrow.Author.Needs.{needs}
 use Rattle.text.proofs.Writing.{and-then}
-use Rattle.replay.proofs.put_last.Statement.{statement}
-use Rattle.replay.proofs.put_last.Tie as tie
+use Rattle.lines.proofs.put_last.Statement.{statement}
+use Rattle.lines.proofs.put_last.Tie as tie
 
 in-a-row : tie.Need-returns
 in-a-row c =
