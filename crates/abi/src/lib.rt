@@ -76,7 +76,7 @@ pub extern "C" fn module_call(
 ) -> i32
     ensures { λ r. ⌜ Called (callResult (decodeOf (now (bytes .entry))) (now (area .entry)) revision function (now (request .entry)) (now (answer .entry))) (now (bytes .entry)) r (now (bytes .exit)) (now (area .exit)) (now (answer .exit)) ⌝ }
 {
-    let d = store::decode(bytes);
+    let d = restore::decode(bytes);
     let outcome = module::call(d, area, revision, function, request, answer);
     keep(outcome, bytes)
 }
@@ -85,7 +85,7 @@ pub extern "C" fn module_call(
 pub extern "C" fn module_tick(bytes: &mut [u8], area: &[u8]) -> i32
     ensures { λ r. ⌜ Happened (tickResult (decodeOf (now (bytes .entry))) (now (area .entry))) (now (bytes .entry)) r (now (bytes .exit)) ⌝ }
 {
-    let d = store::decode(bytes);
+    let d = restore::decode(bytes);
     let outcome = module::tick(d, area);
     keep(outcome, bytes)
 }
@@ -94,7 +94,7 @@ pub extern "C" fn module_tick(bytes: &mut [u8], area: &[u8]) -> i32
 pub extern "C" fn module_power(bytes: &mut [u8], area: &[u8]) -> i32
     ensures { λ r. ⌜ Happened (powerResult (decodeOf (now (bytes .entry))) (now (area .entry))) (now (bytes .entry)) r (now (bytes .exit)) ⌝ }
 {
-    let d = store::decode(bytes);
+    let d = restore::decode(bytes);
     let outcome = module::power(d, area);
     keep(outcome, bytes)
 }

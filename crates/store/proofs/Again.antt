@@ -8,7 +8,7 @@ use native.Mathlib.Omega.{arith}
 use lib.Dec.{eqb}
 use lib.ListN.{length, take, drop, length-drop, take-append-drop}
 use lib.Seq.{take-add, drop-drop, length-take-le}
-use borrow.Author.Tests.{eqb-true, leb-true}
+use borrow.Author.Tests.{eqb-true}
 use Rattle.rules.specs.Tests.{_=?_}
 use Rattle.rules.specs.Bytes.{le, ofLe, numberAt, zeros, zeros?, splice}
 use Rattle.rules.specs.Record.{phaseNumber}
@@ -17,6 +17,7 @@ use Rattle.rules.specs.declared.Device.{Device}
 use Rattle.rules.proofs.Choice.{and-true}
 use Rattle.base.proofs.Le.{Bytes, bytes-drop, bytes-take}
 use Rattle.store.specs.Store.{flag, encodeOf, phaseOf, record?, recordOf, decodeOf}
+use Rattle.store.proofs.Fine.{Fine, fine}
 
 -- what a list's number is written as is the list
 le-ofLe : (l : List ℕ) → Bytes l → le (length l) (ofLe l) ≡ l
@@ -54,38 +55,6 @@ also at n k s e =
     ap (λ (l : List ℕ). l ++ take k (drop (at + n) s)) e
     ∙ ap (λ (l : List ℕ). take n (drop at s) ++ take k l) (sym (drop-drop n at s))
     ∙ sym (take-add n k (drop at s))
-
--- what the test says of the bytes
-record Fine (s : List ℕ) : Type 0 where
-  long : length s ≡ 128
-  phase : numberAt 1 0 s ≤ 4
-  enabled : numberAt 1 1 s ≤ 1
-  locked : numberAt 1 2 s ≤ 1
-  frozen : numberAt 1 3 s ≤ 1
-  spare : numberAt 1 33 s ≡ 0
-  between : zeros? (take 26 (drop 38 s)) ≡ true
-  after : zeros? (drop 96 s) ≡ true
-
-fine : (s : List ℕ) → record? s ≡ true → Fine s
-unfolding record?
-fine s e =
-    let a = and-true _ _ e in
-    let b = and-true _ _ (a .0) in
-    let c = and-true _ _ (b .0) in
-    let d = and-true _ _ (c .0) in
-    let f = and-true _ _ (d .0) in
-    let g = and-true _ _ (f .0) in
-    let h = and-true _ _ (g .0) in
-    record {
-      long = eqb-true (length s) 128 (h .0);
-      phase = leb-true (numberAt 1 0 s) 4 (h .1);
-      enabled = leb-true (numberAt 1 1 s) 1 (g .1);
-      locked = leb-true (numberAt 1 2 s) 1 (f .1);
-      frozen = leb-true (numberAt 1 3 s) 1 (d .1);
-      spare = eqb-true (numberAt 1 33 s) 0 (c .1);
-      between = b .1;
-      after = a .1;
-    }
 
 module _ (s : List ℕ) (bytes : Bytes s) (f : Fine s) where
   part-long : (k at : ℕ) → at + k ≤ length s → length (take k (drop at s)) ≡ k

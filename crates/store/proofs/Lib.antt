@@ -1,5 +1,5 @@
 pub mod Built
-pub mod Decoded
+pub mod Fine
 pub mod Back
 pub mod Range
 pub mod Refused

@@ -7,7 +7,7 @@ use Prim.Native.Nat.{ℕ}
 use lib.ListN.{length}
 use Rattle.rules.specs.Record.{possible, possibleTransfer}
 use Rattle.store.specs.Store.{recordSize, record?, impossible, decodeOf}
-use Rattle.store.proofs.Decoded.{whole}
+use Rattle.store.proofs.Fine.{fine}
 
 pub none-possible : possible impossible ≡ false
 unfolding possible possibleTransfer impossible
@@ -25,4 +25,4 @@ from-record s e = go (record? s) refl
     go false p = absurd (false≢true (sym (no-record s p) ∙ e))
 
 pub possible-whole : (s : List ℕ) → possible (decodeOf s) ≡ true → length s ≡ recordSize
-possible-whole s e = whole s (from-record s e)
+possible-whole s e = fine s (from-record s e) .long

@@ -7,7 +7,8 @@ use mathlib.Core.Bool.{Bool, false, _&&_}
 use lib.ListN.{length, take, drop}
 use Rattle.rules.specs.Tests.{if_then_else_, _≤?_, _=?_}
 use Rattle.rules.specs.Bytes.{le, numberAt, zeros, zeros?}
-use Rattle.rules.specs.Record.{phaseNumber}
+use Rattle.rules.specs.With.{_with-transfer_, _with-phase_}
+use Rattle.rules.specs.Record.{phaseNumber, fresh}
 use Rattle.rules.specs.declared.Phase.{Phase}
 use Rattle.rules.specs.declared.Phase.the-variants.{Idle, Receiving, Verifying, Staged, Failed}
 use Rattle.rules.specs.declared.Transfer.{Transfer}
@@ -94,14 +95,9 @@ recordOf s =
       };
     }
 
--- a record that is not possible: it has failed, and no context was ever given out
+-- a record that is not possible: a fresh one, but failed, though no context was ever given out
 unfoldable pub impossible : Device
-impossible =
-    record {
-      transfer = record { phase = Failed; contexts = 0; received = 0; ticks = 0; running = 0; staged = 0 };
-      thresholds = record { enable = 0; spare = 0; media = 0; controller = 0 };
-      security = record { enabled = false; locked = false; frozen = false; attempts = 0; passphrase = zeros 32 };
-    }
+impossible = fresh with-transfer (fresh .transfer with-phase Failed)
 
 -- any bytes, decoded
 unfoldable pub decodeOf : List ℕ → Device

@@ -1,12 +1,12 @@
--- `store::round_trip` meets its contract. What was encoded decodes to the same record, for each field fits its bytes (proofs/Back.antt).
+-- `restore::round_trip` meets its contract. What was encoded decodes to the same record, for each field fits its bytes (store/proofs/Back.antt).
 -- Assumes nothing.
 use mathlib.Core.Path.{_∙_, ap}
 use Rattle.store.specs.Store.{decodeOf}
 use Rattle.store.proofs.Back.{back}
 use Rattle.store.proofs.Range.{in-range}
 use borrow.Author.Needs.{needs}
-use Rattle.store.proofs.round_trip.Statement.{statement}
-use Rattle.store.proofs.round_trip.Tie as tie
+use Rattle.restore.proofs.round_trip.Statement.{statement}
+use Rattle.restore.proofs.round_trip.Tie as tie
 
 returns : tie.Need-returns
 returns c =

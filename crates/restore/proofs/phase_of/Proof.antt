@@ -1,7 +1,7 @@
--- `store::phase_of` meets its contract. Each test decides as the definition's does.
+-- `restore::phase_of` meets its contract. Each test decides as the definition's does.
 -- Assumes nothing.
-use Rattle.store.proofs.phase_of.Statement.{statement}
-use Rattle.store.proofs.phase_of.Tie as tie
+use Rattle.restore.proofs.phase_of.Statement.{statement}
+use Rattle.restore.proofs.phase_of.Tie as tie
 
 returns : tie.Need-returns
 returns c = simp (c .if1 .taken)

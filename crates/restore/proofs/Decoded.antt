@@ -1,16 +1,14 @@
 -- The decoding functions against the definitions, over plain values.
 -- Assumes nothing.
 use mathlib.Core.Path.{_≡_, refl, _∙_, ap}
-use mathlib.Core.Bool.{Bool, true, _&&_}
+use mathlib.Core.Bool.{Bool, _&&_}
 use mathlib.Core.List.{List}
 use Prim.Native.Nat.{ℕ}
 use lib.Dec.{leb, eqb}
 use lib.ListN.{length, take, drop}
-use borrow.Author.Tests.{eqb-true}
 use Rattle.rules.specs.Bytes.{numberAt, zeros?}
 use Rattle.rules.specs.declared.Phase.{Phase}
-use Rattle.rules.proofs.Choice.{and-true}
-use Rattle.store.specs.Store.{recordSize, phaseOf, record?, recordOf}
+use Rattle.store.specs.Store.{phaseOf, record?, recordOf}
 
 pub tested : (s : List ℕ) {phase enabled locked frozen spare : ℕ} {between after : Bool} → length s ≡ 128
     → phase ≡ numberAt 1 0 s → enabled ≡ numberAt 1 1 s → locked ≡ numberAt 1 2 s → frozen ≡ numberAt 1 3 s → spare ≡ numberAt 1 33 s
@@ -18,18 +16,6 @@ pub tested : (s : List ℕ) {phase enabled locked frozen spare : ℕ} {between a
     → (leb phase 4 && leb enabled 1 && leb locked 1 && leb frozen 1 && eqb spare 0 && between && after) ≡ record? s
 unfolding record?
 tested s h p q r t u v w = rw (p, q, r, t, u, v, w, h) refl
-
--- a record is 128 bytes long
-pub whole : (s : List ℕ) → record? s ≡ true → length s ≡ recordSize
-unfolding record?
-whole s e =
-    let a = and-true _ _ e .0 in
-    let b = and-true _ _ a .0 in
-    let c = and-true _ _ b .0 in
-    let d = and-true _ _ c .0 in
-    let f = and-true _ _ d .0 in
-    let g = and-true _ _ f .0 in
-    eqb-true (length s) recordSize (and-true _ _ g .0)
 
 pub read : (s : List ℕ) {phase contexts received ticks running staged enable spare media controller enabled locked frozen attempts : ℕ} {p : Phase} {pass : List ℕ}
     → phase ≡ numberAt 1 0 s → p ≡ phaseOf phase → contexts ≡ numberAt 4 8 s → received ≡ numberAt 4 12 s → ticks ≡ numberAt 1 5 s

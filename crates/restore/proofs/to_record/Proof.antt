@@ -1,12 +1,12 @@
--- `store::to_record` meets its contract. Each field is the number read at its place (proofs/Decoded.antt).
+-- `restore::to_record` meets its contract. Each field is the number read at its place (proofs/Decoded.antt).
 -- Assumes nothing.
 use mathlib.Core.Path.{_∙_}
 use lib.ListN.{take, drop}
 use Rattle.base.proofs.Parts.{copy-whole}
-use Rattle.store.proofs.Decoded.{read}
+use Rattle.restore.proofs.Decoded.{read}
 use borrow.Author.Needs.{needs}
-use Rattle.store.proofs.to_record.Statement.{statement}
-use Rattle.store.proofs.to_record.Tie as tie
+use Rattle.restore.proofs.to_record.Statement.{statement}
+use Rattle.restore.proofs.to_record.Tie as tie
 
 returns : tie.Need-returns
 returns c =

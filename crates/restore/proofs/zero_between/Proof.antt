@@ -1,9 +1,9 @@
--- `store::zero_between` meets its contract. Each number is zero where its bytes are (base/proofs/Zeros.antt).
+-- `restore::zero_between` meets its contract. Each number is zero where its bytes are (base/proofs/Zeros.antt).
 -- Assumes nothing.
 use Rattle.base.proofs.Zeros.{zero-first, zero-more}
 use borrow.Author.Needs.{needs}
-use Rattle.store.proofs.zero_between.Statement.{statement}
-use Rattle.store.proofs.zero_between.Tie as tie
+use Rattle.restore.proofs.zero_between.Statement.{statement}
+use Rattle.restore.proofs.zero_between.Tie as tie
 
 returns : tie.Need-returns
 returns c =

@@ -1,11 +1,11 @@
--- `store::is_record` meets its contract. The tests are the definition's, over bytes that were read (proofs/Decoded.antt).
+-- `restore::is_record` meets its contract. The tests are the definition's, over bytes that were read (proofs/Decoded.antt).
 -- Assumes nothing.
 use borrow.Author.Tests.{ne-eqb}
 use Rattle.store.specs.Store.{record?}
-use Rattle.store.proofs.Decoded.{tested}
+use Rattle.restore.proofs.Decoded.{tested}
 use borrow.Author.Needs.{needs}
-use Rattle.store.proofs.is_record.Statement.{statement}
-use Rattle.store.proofs.is_record.Tie as tie
+use Rattle.restore.proofs.is_record.Statement.{statement}
+use Rattle.restore.proofs.is_record.Tie as tie
 
 returns : tie.Need-returns
 unfolding record?

@@ -1,17 +1,17 @@
--- `store::decode` meets its contract. What is a record is read; anything else is the impossible one.
+-- `restore::decode` meets its contract. What is a record is read; anything else is the impossible one.
 -- Assumes nothing.
 use mathlib.Core.Path.{_∙_, sym}
 use Rattle.store.specs.Store.{decodeOf}
-use Rattle.store.proofs.Decoded.{whole}
+use Rattle.store.proofs.Fine.{fine}
 use borrow.Author.Needs.{needs}
-use Rattle.store.proofs.decode.Statement.{statement}
-use Rattle.store.proofs.decode.Tie as tie
+use Rattle.restore.proofs.decode.Statement.{statement}
+use Rattle.restore.proofs.decode.Tie as tie
 
 is-record-requires : tie.Need-is-record-requires
 is-record-requires c κs = search needs
 
 to-record-requires : tie.Need-to-record-requires
-to-record-requires c κs = whole _ (sym (c .before .is-record .ensures) ∙ c .if1 .taken)
+to-record-requires c κs = fine _ (sym (c .before .is-record .ensures) ∙ c .if1 .taken) .long
 
 returns : tie.Need-returns
 unfolding decodeOf

@@ -1,0 +1,137 @@
+// The device record back from bytes. Any bytes of any length decode: those that are no record, to one that is not possible.
+ghost use mathlib.Core.Path.{_≡_};
+ghost use lib.ListN.{length, take, drop};
+ghost use Rattle.rules.specs.Bytes.{zeros?};
+ghost use Rattle.store.specs.Store.{phaseOf, record?, recordOf, impossible, decodeOf};
+use rules::Device;
+use rules::Phase;
+use rules::Security;
+use rules::Thresholds;
+use rules::Transfer;
+
+// Bytes 38 to 63 are zero, by four numbers and not byte by byte.
+fn zero_between(s: &[u8]) -> bool
+    requires { ⌜ length (now s) ≡ 128 ⌝ }
+    ensures { λ r. ⌜ r ≡ zeros? (take 26 (drop 38 (now (s .entry)))) ⌝ }
+{
+    (base::half(s, 38) == 0)
+        & (base::long(s, 40) == 0)
+        & (base::long(s, 48) == 0)
+        & (base::long(s, 56) == 0)
+}
+
+// Bytes 96 to 127 are zero.
+fn zero_after(s: &[u8]) -> bool
+    requires { ⌜ length (now s) ≡ 128 ⌝ }
+    ensures { λ r. ⌜ r ≡ zeros? (drop 96 (now (s .entry))) ⌝ }
+{
+    (base::long(s, 96) == 0)
+        & (base::long(s, 104) == 0)
+        & (base::long(s, 112) == 0)
+        & (base::long(s, 120) == 0)
+}
+
+fn is_record(s: &[u8]) -> bool
+    ensures { λ r. ⌜ r ≡ record? (now (s .entry)) ⌝ }
+{
+    if s.len() != 128 {
+        return false;
+    }
+    let phase = base::byte(s, 0);
+    let enabled = base::byte(s, 1);
+    let locked = base::byte(s, 2);
+    let frozen = base::byte(s, 3);
+    let spare = base::byte(s, 33);
+    let between = zero_between(s);
+    let after = zero_after(s);
+    (phase <= 4) & (enabled <= 1) & (locked <= 1) & (frozen <= 1) & (spare == 0) & between & after
+}
+
+fn phase_of(n: u8) -> Phase
+    ensures { λ r. ⌜ r ≡ phaseOf n ⌝ }
+{
+    let idle = n == 0;
+    let receiving = n == 1;
+    let verifying = n == 2;
+    let staged = n == 3;
+    if idle {
+        return Phase::Idle;
+    }
+    if receiving {
+        return Phase::Receiving;
+    }
+    if verifying {
+        return Phase::Verifying;
+    }
+    if staged {
+        return Phase::Staged;
+    }
+    Phase::Failed
+}
+
+fn to_record(s: &[u8]) -> Device
+    requires { ⌜ length (now s) ≡ 128 ⌝ }
+    ensures { λ r. ⌜ r ≡ recordOf (now (s .entry)) ⌝ }
+{
+    let phase = phase_of(base::byte(s, 0));
+    let transfer = Transfer {
+        phase,
+        contexts: base::word(s, 8),
+        received: base::word(s, 12),
+        ticks: base::byte(s, 5),
+        running: base::long(s, 16),
+        staged: base::long(s, 24),
+    };
+    let thresholds = Thresholds {
+        enable: base::half(s, 6),
+        spare: base::byte(s, 32),
+        media: base::half(s, 34),
+        controller: base::half(s, 36),
+    };
+    let mut passphrase = [0u8; 32];
+    base::copy(&mut passphrase, &s[64..96]);
+    let enabled = base::byte(s, 1) == 1;
+    let locked = base::byte(s, 2) == 1;
+    let frozen = base::byte(s, 3) == 1;
+    let security = Security {
+        enabled,
+        locked,
+        frozen,
+        attempts: base::byte(s, 4),
+        passphrase,
+    };
+    Device {
+        transfer,
+        thresholds,
+        security,
+    }
+}
+
+fn no_record() -> Device
+    ensures { λ r. ⌜ r ≡ impossible ⌝ }
+{
+    let fresh = record::fresh();
+    let transfer = Transfer {
+        phase: Phase::Failed,
+        ..fresh.transfer
+    };
+    Device { transfer, ..fresh }
+}
+
+// The record that the bytes say; bytes that are no record give one that is not possible.
+pub fn decode(s: &[u8]) -> Device
+    ensures { λ r. ⌜ r ≡ decodeOf (now (s .entry)) ⌝ }
+{
+    if is_record(s) {
+        return to_record(s);
+    }
+    no_record()
+}
+
+// Encoded and decoded again, every record is the same: the theorem as a contract.
+pub fn round_trip(d: Device) -> Device
+    ensures { λ r. ⌜ r ≡ d ⌝ }
+{
+    let bytes = store::encode(d);
+    decode(&bytes)
+}
