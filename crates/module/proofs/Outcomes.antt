@@ -8,7 +8,7 @@ use lib.Dec.{lit≤}
 use lib.ListN.{length}
 use Rattle.rules.specs.Tests.{if_then_else_, _=?_}
 use Rattle.rules.specs.Bytes.{zeros}
-use Rattle.rules.specs.Refusals.{verdict, eventChecks, statusBytes, statusLength, answerAfter, left}
+use Rattle.rules.specs.Refusals.{verdict, eventChecks, statusBytes, statusLength, answerAfter, recordLeft}
 use Rattle.rules.specs.Table.{rowOf, servedCheck, lengthCheck}
 use Rattle.rules.specs.Module.{Result, callOf, checks, accepted, change, changeArea, gateChecks, callChecks, outcome, happened, callResult}
 use Rattle.rules.specs.declared.Refusal.{Refusal}
@@ -60,7 +60,7 @@ module _ (d : Device) (area : List ℕ) (revision index : ℕ) (request answer :
 
   pub as-status : {o : Outcome} {v : Verdict} {device : Device} {answer′ : List ℕ} (status ext n : ℕ)
       → v ≡ judged → v ≡ Refused (Status status ext) → o ≡ given device v n → n ≡ statusLength status (row .answer)
-      → device ≡ left status d
+      → device ≡ recordLeft status d
       → answer′ ≡ answerAfter (statusBytes status ext ++ zeros (n - 4)) answer
       → Promised result o area answer′
   as-status status ext n j e k l f g =

@@ -4,7 +4,7 @@ ghost use Prim.Native.Nat.{_≤_};
 ghost use lib.ListN.{length};
 ghost use Rattle.rules.specs.Bytes.{zeros?};
 ghost use Rattle.rules.specs.Record.{phaseNumber, fresh, possible, possibleTransfer, possibleSecurity, possibleThresholds};
-ghost use Rattle.rules.specs.Refusals.{verdict, eventChecks, left};
+ghost use Rattle.rules.specs.Refusals.{verdict, eventChecks, recordLeft};
 use rules::Device;
 use rules::Phase;
 use rules::Refusal;
@@ -119,7 +119,7 @@ pub fn judge_event(d: Device, area: &[u8]) -> Verdict
 // What a refusal by a status leaves: the record as it was, but for status 11, which adds one to attempts. A possible record's attempts leave room for it.
 pub fn left(status: u16, d: Device) -> Device
     requires { ⌜ d .security .attempts ≤ 10 ⌝ }
-    ensures { λ r. ⌜ r ≡ left status d ⌝ }
+    ensures { λ r. ⌜ r ≡ recordLeft status d ⌝ }
 {
     let wrong = status == 11;
     if wrong {

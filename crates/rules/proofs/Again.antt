@@ -8,8 +8,8 @@ use Rattle.rules.specs.Tests.{_=?_}
 use Rattle.rules.specs.Transfer.{TransferCall, GetFwInfo, Start, Send, Finish, Query}
 use Rattle.rules.specs.Module.{Module}
 use Rattle.rules.specs.History.{Plays, end, All}
-use Rattle.rules.specs.Transfers.{machine, Line, History, Started, kindOf}
-use Rattle.rules.specs.Demand.{Sound, NeverAgain}
+use Rattle.rules.specs.Transfers.{machine, Exchange, History, Started, kindOf}
+use Rattle.rules.specs.Demand3.{Sound, NeverAgain}
 use Rattle.rules.specs.declared.Transfer.{Transfer}
 use Rattle.rules.proofs.Joining.{plays-right}
 use Rattle.rules.proofs.Choice.{if-both}
@@ -46,11 +46,11 @@ kept-end c m [] g = g
 kept-end c m (x ∷ h) g = kept-end c (inner .next m (x .event)) h (kept-next c m (act (x .event)) g)
 
 -- a Start is answered the number after the last one given out, which then is the last one given out
-record StartedAt (m : Module) (x : Line) (c : ℕ) : Type 0 where
+record StartedAt (m : Module) (x : Exchange) (c : ℕ) : Type 0 where
   next : c ≡ given (storeOf m) + 1
   out : c ≤ given (storeOf (inner .next m (x .event)))
 
-started-at : (m : Module) (x : Line) (host c : ℕ) → Sound m → kindOf x ≡ Started host c → inner .answer m (x .event) ≡ x .got → StartedAt m x c
+started-at : (m : Module) (x : Exchange) (host c : ℕ) → Sound m → kindOf x ≡ Started host c → inner .answer m (x .event) ≡ x .got → StartedAt m x c
 started-at m x host c w k p =
     let f : StartAct (act (x .event)) (x .got) host c = started-act (act (x .event)) (x .got) host c (sym (kind-act x) ∙ k) in
     let q : answers m (Transfers host (f .unserved) (f .misfit) Start (f .n) (f .answer)) ≡ x .got = subst (λ (z : Act). answers m z ≡ x .got) (f .act-is) p in

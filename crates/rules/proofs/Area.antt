@@ -6,8 +6,8 @@ use mathlib.Core.List.{List}
 use Rattle.rules.specs.Refusals.{verdict, eventChecks}
 use Rattle.rules.specs.Table.{rowOf}
 use Rattle.rules.specs.Transfer.{GetFwInfo, Start, Send, Finish, Query}
-use Rattle.rules.specs.Module.{Call, OnMask, OnThresholds, OnTransfer, OnSecurity, OnNothing, Module, Event, call, tick, power, outcome, happened, callChecks, callResult, tickResult, powerResult}
-use Rattle.rules.specs.Transfers.{machine, Kind, Started, Sent, Finished, Ticked, Powered, Other, callIn, callKind, eventKind}
+use Rattle.rules.specs.Module.{Call, OnMask, OnThresholds, OnTransfer, OnSecurity, OnNothing, Module, Event, call, tick, power, outcome, happened, callChecks, callResult, tickResult, powerResult, callIn}
+use Rattle.rules.specs.Transfers.{machine, Kind, Started, Sent, Finished, Ticked, Powered, Other, callKind, eventKind}
 use Rattle.rules.specs.declared.Refusal.the-variants.{R, Status}
 use Rattle.rules.specs.declared.Verdict.{Verdict}
 use Rattle.rules.specs.declared.Verdict.the-variants.{Accepted, Refused}

@@ -9,9 +9,9 @@ use lib.ListN.{length}
 use borrow.Author.Tests.{eqb-true, le-leb}
 use Rattle.rules.specs.Tests.{_=?_, _≤?_, _implies_}
 use Rattle.rules.specs.Transfer.{GetFwInfo, Start, Send, Finish, Query}
-use Rattle.rules.specs.Module.{Call, OnMask, OnThresholds, OnTransfer, OnSecurity, OnNothing, Event, call, tick, power}
-use Rattle.rules.specs.Transfers.{Line, History, Kind, Started, Sent, Finished, Ticked, Powered, Other, callIn, kindOf}
-use Rattle.rules.specs.Demand.{Carries, Uses, AnsweredTo, HonestAfter, Honest}
+use Rattle.rules.specs.Module.{Call, OnMask, OnThresholds, OnTransfer, OnSecurity, OnNothing, Event, call, tick, power, callIn}
+use Rattle.rules.specs.Transfers.{Exchange, History, Kind, Started, Sent, Finished, Ticked, Powered, Other, kindOf}
+use Rattle.rules.specs.Demand3.{Carries, Uses, AnsweredTo, HonestAfter, Honest}
 use Rattle.rules.proofs.Choice.{and-true}
 
 -- a Start that answered the context to the host
@@ -62,7 +62,7 @@ started-to host context Ticked e = absurd (false≢true e)
 started-to host context Powered e = absurd (false≢true e)
 started-to host context Other e = absurd (false≢true e)
 
-answered-step : (b : Bool) (host context : ℕ) (x : Line) (h : History) → startedTo host context (kindOf x) ≡ b → (b || answeredTo host context h) ≡ true
+answered-step : (b : Bool) (host context : ℕ) (x : Exchange) (h : History) → startedTo host context (kindOf x) ≡ b → (b || answeredTo host context h) ≡ true
     → (answeredTo host context h ≡ true → AnsweredTo host context h) → AnsweredTo host context (x ∷ h)
 answered-step true host context x h e q i = inl (started-to host context (kindOf x) e)
 answered-step false host context x h e q i = inr (i q)

@@ -158,6 +158,7 @@ module _ (d : Device) (area : List ℕ) (revision index : ℕ) (request answer :
   unfolding callResult judged
   of-call =
       record {
+        judged = replied;
         numbers = λ refusal e. numbers-of (rowOf index .answer) refusal (allowed refusal (sym replied ∙ e));
         leaves = λ refusal e.
             let f : judged ≡ Refused refusal = sym replied ∙ e in

@@ -14,9 +14,9 @@ use Rattle.rules.specs.Image.{imageOf}
 use Rattle.rules.specs.Transfer.{GetFwInfo, Start, Send, Finish, Query, receivedBytes}
 use Rattle.rules.specs.Module.{Module}
 use Rattle.rules.specs.History.{Plays, end, All}
-use Rattle.rules.specs.Transfers.{Answer, Line, History, Kind, Finished, Ticked, Other, kindOf, Open, none, by, sentIn, openAfter}
+use Rattle.rules.specs.Transfers.{Answer, Exchange, History, Kind, Finished, Ticked, Other, kindOf, Open, none, by, bytesSoFar, InOpen, InOrder, AllInOrder}
 use Rattle.rules.specs.Sends.{FinishedIn, tickCount, ticksIn, powerCount, powerCycles}
-use Rattle.rules.specs.Demand.{remains, Sound, Due}
+use Rattle.rules.specs.Demand3.{remains, Sound, Due}
 use Rattle.rules.specs.declared.Phase.{Phase}
 use Rattle.rules.specs.declared.Phase.the-variants.{Idle, Verifying}
 use Rattle.rules.specs.declared.Transfer.{Transfer}
@@ -27,7 +27,7 @@ use Rattle.rules.proofs.Facts.{never, Kept, accepted-call, changes, sen
 use Rattle.rules.proofs.Possible.{sound-act}
 use Rattle.rules.proofs.Gate.{Remains}
 use Rattle.rules.proofs.KindOf.{good-accepted, accepted-good, FinishAct, finished-act}
-use Rattle.rules.proofs.Order.{Fits, InOpen, InOrder, AllInOrder, goes, orders, chosen, bytes-open}
+use Rattle.rules.proofs.Order.{openAfter, Fits, goes, orders, chosen, bytes-open}
 use Rattle.rules.proofs.Pieces.{open-join, orders-left, AtFinish, at-finish, Opened, opened}
 use Rattle.rules.proofs.Stage.{Ripe, quiet, busy, no-tick}
 
@@ -69,14 +69,14 @@ held m (x ∷ h) p z l =
 -- A record in Verifying has such a history
 record Waiting (h : History) (s : Store) : Type 0 where
   before : History
-  finish : Line
+  finish : Exchange
   since : History
   host : ℕ
   context : ℕ
   whole : h ≡ before ++ (finish ∷ since)
   finishes : kindOf finish ≡ Finished host context 0
   of-open : InOpen (openAfter none before) context
-  bytes : bytesOf s ≡ sentIn (openAfter none before)
+  bytes : bytesOf s ≡ bytesSoFar (openAfter none before)
   count : ticksIn since + s .transfer .ticks ≡ verification
   some : 1 ≤ s .transfer .ticks
   no-power : powerCycles since ≡ 0
@@ -84,16 +84,16 @@ record Waiting (h : History) (s : Store) : Type 0 where
 Watch : History → Store → Type 0
 Watch h s = s .transfer .phase ≡ Verifying → Waiting h s
 
-ticks-snoc : (h : History) (x : Line) → ticksIn (h ++ (x ∷ [])) ≡ ticksIn h + tickCount (kindOf x)
+ticks-snoc : (h : History) (x : Exchange) → ticksIn (h ++ (x ∷ [])) ≡ ticksIn h + tickCount (kindOf x)
 ticks-snoc [] x = omega arith
 ticks-snoc (y ∷ h) x = omega (arith, ticks-snoc h x)
 
-powers-snoc : (h : History) (x : Line) → powerCycles (h ++ (x ∷ [])) ≡ powerCycles h + powerCount (kindOf x)
+powers-snoc : (h : History) (x : Exchange) → powerCycles (h ++ (x ∷ [])) ≡ powerCycles h + powerCount (kindOf x)
 powers-snoc [] x = omega arith
 powers-snoc (y ∷ h) x = omega (arith, powers-snoc h x)
 
 -- one entry more, which is no power cycle
-longer : (h : History) (s u : Store) (x : Line) → Waiting h s → powerCount (kindOf x) ≡ 0 → bytesOf u ≡ bytesOf s → tickCount (kindOf x) + u .transfer .ticks ≡ s .transfer .ticks → 1 ≤ u .transfer .ticks
+longer : (h : History) (s u : Store) (x : Exchange) → Waiting h s → powerCount (kindOf x) ≡ 0 → bytesOf u ≡ bytesOf s → tickCount (kindOf x) + u .transfer .ticks ≡ s .transfer .ticks → 1 ≤ u .transfer .ticks
     → Waiting (h ++ (x ∷ [])) u
 longer h s u x w n b l m =
     record {
@@ -112,13 +112,13 @@ longer h s u x w n b l m =
     }
 
 -- the same store, one entry more
-same-watch : (h : History) (s u : Store) (x : Line) → u ≡ s → kindOf x ≡ Other → Watch h s → Watch (h ++ (x ∷ [])) u
+same-watch : (h : History) (s u : Store) (x : Exchange) → u ≡ s → kindOf x ≡ Other → Watch h s → Watch (h ++ (x ∷ [])) u
 unfolding Watch
 same-watch h s u x e k w p =
     let v : Waiting h s = w (ap (λ (z : Store). z .transfer .phase) (sym e) ∙ p) in
     subst (λ (z : Store). Waiting (h ++ (x ∷ [])) z) (sym e) (longer h s s x v (ap powerCount k) refl (omega (arith, ap tickCount k)) (v .some))
 
-watch-tick : (h : History) (s : Store) (x : Line) → kindOf x ≡ Ticked → Watch h s → Tick (s .transfer) (s .area) → Watch (h ++ (x ∷ [])) (storeTick s)
+watch-tick : (h : History) (s : Store) (x : Exchange) → kindOf x ≡ Ticked → Watch h s → Tick (s .transfer) (s .area) → Watch (h ++ (x ∷ [])) (storeTick s)
 unfolding Watch
 watch-tick h s x k w (calm n e) p = never (sym (ap (λ (z : Phase). z is Verifying) p) ∙ ap (λ (t : Transfer). t .phase is Verifying) e ∙ n)
 watch-tick h s x k w (counting q l e) p =
@@ -127,7 +127,7 @@ watch-tick h s x k w (counting q l e) p =
 watch-tick h s x k w (good version q l i e) p = never (sym (ap (λ (z : Phase). z is Verifying) p) ∙ ap (λ (t : Transfer). t .phase is Verifying) e)
 watch-tick h s x k w (bad q l i e) p = never (sym (ap (λ (z : Phase). z is Verifying) p) ∙ ap (λ (t : Transfer). t .phase is Verifying) e)
 
-watch-finish : (h : History) (s : Store) (x : Line) (host context flag : ℕ) → kindOf x ≡ Finished host context flag → InOpen (openAfter none h) context → bytesOf s ≡ sentIn (openAfter none h)
+watch-finish : (h : History) (s : Store) (x : Exchange) (host context flag : ℕ) → kindOf x ≡ Finished host context flag → InOpen (openAfter none h) context → bytesOf s ≡ bytesSoFar (openAfter none h)
     → Watch (h ++ (x ∷ [])) (storeChange s (Finish flag context))
 unfolding Watch
 watch-finish h s x host context flag k o b = go (flag =? 0) refl
@@ -152,7 +152,7 @@ watch-finish h s x host context flag k o b = go (flag =? 0) refl
         })
     go false e p = never (sym (ap (λ (z : Phase). z is Verifying) p) ∙ ap (λ (c : Bool). (if c then s .transfer with-phase Verifying with-ticks verification else (s .transfer with-phase Idle with-received 0)) .phase is Verifying) e)
 
-watch-act : (h : History) (x : Line) (m : Module) (f : Act) → kindOf x ≡ actKind f (x .got) → Fits (openAfter none h) (storeOf m) → InOrder (openAfter none h) (kindOf x) → Watch h (storeOf m)
+watch-act : (h : History) (x : Exchange) (m : Module) (f : Act) → kindOf x ≡ actKind f (x .got) → Fits (openAfter none h) (storeOf m) → InOrder (openAfter none h) (kindOf x) → Watch h (storeOf m)
     → answers m f ≡ x .got → Kept (x .got) → Watch (h ++ (x ∷ [])) (storeOf (nexts m f))
 watch-act h x m (Transfers host a b GetFwInfo n answer) e o t w p k =
     same-watch h (storeOf m) (storeNext (storeOf m) a b GetFwInfo) x
@@ -192,7 +192,7 @@ watch before m (x ∷ h) s o w p k =
 due-from : (h : History) (s : Store) (version : ℕ) → AllInOrder none h → Waiting h s → Ripe s version → Due h version
 due-from h s version t w r = go (openAfter none (w .before)) refl (w .of-open) (w .bytes)
   where
-    go : (o : Open) → openAfter none (w .before) ≡ o → InOpen o (w .context) → bytesOf s ≡ sentIn o → Due h version
+    go : (o : Open) → openAfter none (w .before) ≡ o → InOpen o (w .context) → bytesOf s ≡ bytesSoFar o → Due h version
     go none e of b = absurd of
     go (by host c bytes) e of b =
         let p : Opened (w .before) host c bytes = opened (w .before) host c bytes (orders-left none (w .before) (w .finish ∷ w .since) (subst (λ (z : History). AllInOrder none z) (w .whole) t)) e in

@@ -15,7 +15,7 @@ use Rattle.rules.specs.Image.{imageOf}
 use Rattle.rules.specs.Transfer.{TransferCall, Start, Send, Finish, Query, transferChecks, transferAnswer, tickChange, receivedBytes}
 use Rattle.rules.specs.Refusals.{statusBytes}
 use Rattle.rules.specs.Transfers.{Answer}
-use Rattle.rules.specs.Demand.{remains}
+use Rattle.rules.specs.Demand3.{remains}
 use Rattle.rules.specs.declared.Refusal.the-variants.{R, Status}
 use Rattle.rules.specs.declared.Verdict.{Verdict}
 use Rattle.rules.specs.declared.Verdict.the-variants.{Accepted, Refused}

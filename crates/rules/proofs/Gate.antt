@@ -5,8 +5,8 @@ use mathlib.Core.Bool.{Bool, true, false, false≢true}
 use mathlib.Core.List.{[], _∷_}
 use Rattle.rules.specs.Module.{Module}
 use Rattle.rules.specs.History.{Plays, end, All, Same}
-use Rattle.rules.specs.Transfers.{Answer, machine, Line, History}
-use Rattle.rules.specs.Demand.{remains, Sound}
+use Rattle.rules.specs.Transfers.{Answer, machine, Exchange, History}
+use Rattle.rules.specs.Demand3.{remains, Sound}
 use Rattle.rules.proofs.Parts.{act, inner}
 use Rattle.rules.proofs.Through.{Through, shut}
 use Rattle.rules.specs.Demand1.{bufferTooShort}
@@ -14,13 +14,13 @@ use Rattle.rules.proofs.Facts.{Kept}
 use Rattle.rules.proofs.Possible.{sound-act, sound-through}
 
 -- the entry remains; its answer buffer is long enough
-abbrev pub Remains : Line → Type 0
+abbrev pub Remains : Exchange → Type 0
 Remains x = Kept (x .got)
 
-abbrev pub Roomy : Line → Type 0
+abbrev pub Roomy : Exchange → Type 0
 Roomy x = bufferTooShort (x .event) ≡ false
 
-pub roomy : (m : Module) (x : Line) → machine .answer m (x .event) ≡ x .got → Remains x → Roomy x
+pub roomy : (m : Module) (x : Exchange) → machine .answer m (x .event) ≡ x .got → Remains x → Roomy x
 roomy m x p k = go (bufferTooShort (x .event)) refl
   where
     go : (b : Bool) → bufferTooShort (x .event) ≡ b → bufferTooShort (x .event) ≡ false

@@ -14,8 +14,8 @@ use Rattle.rules.specs.Table.{table, lookUp, rowOf, fits?}
 use Rattle.rules.specs.Transfer.{GetFwInfo, Start, Send, Finish, Query}
 use Rattle.rules.specs.Module.{callOf, Event, call, tick, power}
 use Rattle.rules.specs.History.{All, keep}
-use Rattle.rules.specs.Transfers.{Line, History}
-use Rattle.rules.specs.Demand.{Carries, Uses, AnsweredTo, HonestAfter, Honest, remains, struck}
+use Rattle.rules.specs.Transfers.{Exchange, History}
+use Rattle.rules.specs.Demand3.{Carries, Uses, AnsweredTo, HonestAfter, Honest, remains, struck}
 use Rattle.rules.specs.declared.Verdict.{Verdict}
 use Rattle.rules.specs.declared.Verdict.the-variants.{Accepted, Refused}
 use Rattle.rules.specs.declared.Row.{Row}
@@ -108,7 +108,7 @@ uses-act past tick u = tt
 uses-act past power u = tt
 
 -- what remains: it all remains, and it is honest
-remains-step : (b : Bool) (x : Line) (h : History) → remains (x .got .reply .verdict) ≡ b → All Remains h → All Remains (keep b x h)
+remains-step : (b : Bool) (x : Exchange) (h : History) → remains (x .got .reply .verdict) ≡ b → All Remains h → All Remains (keep b x h)
 remains-step true x h e a = (e, a)
 remains-step false x h e a = a
 
@@ -120,7 +120,7 @@ all-remains (x ∷ h) = remains-step (remains (x .got .reply .verdict)) x (struc
 abbrev Holds : History → History → Type 0
 Holds past past′ = (host context : ℕ) → AnsweredTo host context past → AnsweredTo host context past′
 
-both-more : (past past′ : History) (x : Line) → Holds past past′ → Holds (x ∷ past) (x ∷ past′)
+both-more : (past past′ : History) (x : Exchange) → Holds past past′ → Holds (x ∷ past) (x ∷ past′)
 both-more past past′ x w host context (inl e) = inl e
 both-more past past′ x w host context (inr m) = inr (w host context m)
 
@@ -128,12 +128,12 @@ good-remains : (v : Verdict) → refused? v ≡ false → remains v ≡ true
 good-remains Accepted e = refl
 good-remains (Refused refusal) e = never e
 
-left-more : (past past′ : History) (x : Line) → remains (x .got .reply .verdict) ≡ false → Holds past past′ → Holds (x ∷ past) past′
+left-more : (past past′ : History) (x : Exchange) → remains (x .got .reply .verdict) ≡ false → Holds past past′ → Holds (x ∷ past) past′
 left-more past past′ x n w host context (inl e) =
     never (sym (good-remains (x .got .reply .verdict) (started-act (act (x .event)) (x .got) host context (sym (kind-act x) ∙ e) .good)) ∙ n)
 left-more past past′ x n w host context (inr m) = w host context m
 
-honest-step : (b : Bool) (past past′ : History) (x : Line) (h : History) → remains (x .got .reply .verdict) ≡ b → Holds past past′
+honest-step : (b : Bool) (past past′ : History) (x : Exchange) (h : History) → remains (x .got .reply .verdict) ≡ b → Holds past past′
     → ((host context : ℕ) → Uses (x .event) host context → AnsweredTo host context past)
     → ((later : History) → Holds (x ∷ past) later → HonestAfter later h) → HonestAfter past′ (keep b x h)
 honest-step true past past′ x h e w u i = (λ host context q. w host context (u host context q), i (x ∷ past′) (both-more past past′ x w))

@@ -14,12 +14,12 @@ use Rattle.rules.specs.Image.{sumOfWords, goodRecord, goodRecords, goodI
 use Rattle.rules.specs.Module.{Module, Event, call, tick, power, callResult, tickResult, powerResult}
 use Rattle.rules.specs.Replay.{printedStatus, printedExt}
 use Rattle.rules.specs.History.{historyOf, end}
-use Rattle.rules.specs.Transfers.{machine, Line, History}
+use Rattle.rules.specs.Transfers.{machine, Exchange, History}
 use Rattle.rules.specs.Moves.{rearranged}
-use Rattle.rules.specs.Demand.{freshWith, Honest, struck, OneAfterAnother, Demand3}
+use Rattle.rules.specs.Demand3.{freshWith, Honest, struck, OneAfterAnother, Demand3Of}
 use Rattle.rules.specs.declared.Phase.the-variants.{Staged}
 use Rattle.rules.proofs.Checked.{checked}
-use Rattle.rules.proofs.Demand.{demand-3}
+use Rattle.rules.proofs.Demand3.{demand-3}
 
 abbrev recorder : ℕ
 recorder = 1
@@ -67,7 +67,7 @@ abbrev new : Module
 new = freshWith (zeros areaSize)
 
 abbrev answersIn : History → List (ℕ × ℕ)
-answersIn h = map (λ (x : Line). (printedStatus (x .got .reply .verdict), printedExt (x .got .reply .verdict))) h
+answersIn h = map (λ (x : Exchange). (printedStatus (x .got .reply .verdict), printedExt (x .got .reply .verdict))) h
 
 -- Which calls are refused: the laptop's Starts, 7/1 while the transfer is received or verified, 7/2 once it is staged, and its Send, 3.
 pub refused : answersIn (historyOf machine new (same-hour ++ restart))
@@ -99,7 +99,7 @@ caller (call host revision index request answer) = (host, index)
 caller tick = (0, 0)
 caller power = (0, 1)
 
-pub moved : map (λ (x : Line). caller (x .event)) (rearranged (struck (historyOf machine new same-hour)))
+pub moved : map (λ (x : Exchange). caller (x .event)) (rearranged (struck (historyOf machine new same-hour)))
     ≡ (2, 12) ∷ (1, 13) ∷ (1, 14) ∷ (1, 14) ∷ (1, 15) ∷ (0, 0) ∷ (0, 0) ∷ (0, 0) ∷ (0, 0) ∷ (0, 0) ∷ (0, 0) ∷ (0, 0) ∷ []
 unfolding zeros? possible possibleTransfer possibleSecurity possibleThresholds verdict rowOf fits? sumOfWords goodRecord goodRecords goodImage imageOf callResult tickResult powerResult
 moved = refl
@@ -110,7 +110,7 @@ unfolding zeros? possible possibleTransfer possibleSecurity possibleThresholds v
 honest = checked (historyOf machine new (same-hour ++ restart)) refl
 
 -- so all of demand 3 holds of it
-pub as-demanded : Demand3 new (historyOf machine new (same-hour ++ restart))
+pub as-demanded : Demand3Of new (historyOf machine new (same-hour ++ restart))
 as-demanded = demand-3 (zeros areaSize) (length-replicate {A = ℕ} areaSize 0) (same-hour ++ restart) honest
 
 -- Honest hosts are needed, and for "each from one host" alone: a laptop that uses the recorder's context is served, and the two send one image.

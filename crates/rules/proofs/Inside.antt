@@ -12,9 +12,9 @@ use Rattle.rules.specs.Record.{_is_, current}
 use Rattle.rules.specs.Transfer.{TransferCall, GetFwInfo, Start, Send, Finish, Query}
 use Rattle.rules.specs.Module.{Module, Event}
 use Rattle.rules.specs.History.{Plays, end, All, Same}
-use Rattle.rules.specs.Transfers.{Answer, Line, History, Started, Finished, kindOf}
-use Rattle.rules.specs.Sends.{sendIn, ownSend, ownSends, others}
-use Rattle.rules.specs.Demand.{remains, Sound}
+use Rattle.rules.specs.Transfers.{Answer, Exchange, History, Started, Finished, kindOf}
+use Rattle.rules.specs.Sends.{isSendOf, ownSend, ownSends, others}
+use Rattle.rules.specs.Demand3.{remains, Sound}
 use Rattle.rules.specs.declared.Verdict.the-variants.{Accepted}
 use Rattle.rules.specs.declared.Phase.{Phase}
 use Rattle.rules.specs.declared.Phase.the-variants.{Receiving, Verifying}
@@ -65,7 +65,7 @@ gone-end c m [] g = g
 gone-end c m (x ∷ h) g = gone-end c (inner .next m (x .event)) h (gone-next c m (act (x .event)) g)
 
 -- an entry that finishes the transfer c at m
-pub finish-at : (m : Module) (y : Line) (j c flag : ℕ) → kindOf y ≡ Finished j c flag → inner .answer m (y .event) ≡ y .got → FinishOk (m .device .transfer) flag c
+pub finish-at : (m : Module) (y : Exchange) (j c flag : ℕ) → kindOf y ≡ Finished j c flag → inner .answer m (y .event) ≡ y .got → FinishOk (m .device .transfer) flag c
 finish-at m y j c flag k p =
     let f : FinishAct (act (y .event)) (y .got) j c flag = finished-act (act (y .event)) (y .got) j c flag (sym (kind-act y) ∙ k) in
     let q : answers m (Transfers j (f .unserved) (f .misfit) (Finish flag c) (f .n) (f .answer)) ≡ y .got = subst (λ (z : Act). answers m z ≡ y .got) (f .act-is) p in
@@ -73,7 +73,7 @@ finish-at m y j c flag k p =
 
 -- the transfer c goes on after the act
 record On (c : ℕ) (m : Module) (f : Act) (got : Answer) : Type 0 where
-  which : ((sendIn c (actKind f got) ≡ true) × OwnAct f) ⊎ ((sendIn c (actKind f got) ≡ false) × FreeAct f)
+  which : ((isSendOf c (actKind f got) ≡ true) × OwnAct f) ⊎ ((isSendOf c (actKind f got) ≡ false) × FreeAct f)
   at : nexts m f .device .transfer .phase ≡ Receiving
   ctx : current (nexts m f .device .transfer) ≡ c
 
@@ -110,15 +110,15 @@ go-on c m Ticks got p g q k =
 go-on c m Powers got p g q k = inl (record { old = omega (arith, g); other = λ r z. never (sym r) })
 
 -- of an entry
-abbrev pub Within : (context : ℕ) → Line → Type 0
+abbrev pub Within : (context : ℕ) → Exchange → Type 0
 Within c x = Either Own Free (ownSend c) x
 
-within : (c : ℕ) (x : Line) → Kept (x .got) → ((sendIn c (actKind (act (x .event)) (x .got)) ≡ true) × OwnAct (act (x .event))) ⊎ ((sendIn c (actKind (act (x .event)) (x .got)) ≡ false) × FreeAct (act (x .event))) → Within c x
+within : (c : ℕ) (x : Exchange) → Kept (x .got) → ((isSendOf c (actKind (act (x .event)) (x .got)) ≡ true) × OwnAct (act (x .event))) ⊎ ((isSendOf c (actKind (act (x .event)) (x .got)) ≡ false) × FreeAct (act (x .event))) → Within c x
 unfolding Free
-within c x k (inl q) = inl (ap (sendIn c) (kind-act x) ∙ q .0, record { which = q .1; kept = k })
-within c x k (inr q) = inr (ap (sendIn c) (kind-act x) ∙ q .0, q .1)
+within c x k (inl q) = inl (ap (isSendOf c) (kind-act x) ∙ q .0, record { which = q .1; kept = k })
+within c x k (inr q) = inr (ap (isSendOf c) (kind-act x) ∙ q .0, q .1)
 
-inside-step : (c j flag : ℕ) (m : Module) (x y : Line) (mid : History) → kindOf y ≡ Finished j c flag → inner .answer (end inner m (x ∷ mid)) (y .event) ≡ y .got → Kept (x .got)
+inside-step : (c j flag : ℕ) (m : Module) (x y : Exchange) (mid : History) → kindOf y ≡ Finished j c flag → inner .answer (end inner m (x ∷ mid)) (y .event) ≡ y .got → Kept (x .got)
     → Gone c (storeOf (inner .next m (x .event))) ⊎ On c m (act (x .event)) (x .got)
     → (On c m (act (x .event)) (x .got) → All (Within c) mid) → All (Within c) (x ∷ mid)
 inside-step c j flag m x y mid fin p k (inl g) i =
@@ -126,7 +126,7 @@ inside-step c j flag m x y mid fin p k (inl g) i =
     absurd (gone-end c (inner .next m (x .event)) mid g .other (ap (λ (z : Phase). z is Receiving) (w .at)) (w .own))
 inside-step c j flag m x y mid fin p k (inr o) i = (within c x k (o .which), i o)
 
-pub inside : (c j flag : ℕ) (m : Module) (mid : History) (y : Line) → m .device .transfer .phase ≡ Receiving → current (m .device .transfer) ≡ c → Plays inner m mid → All Remains mid
+pub inside : (c j flag : ℕ) (m : Module) (mid : History) (y : Exchange) → m .device .transfer .phase ≡ Receiving → current (m .device .transfer) ≡ c → Plays inner m mid → All Remains mid
     → kindOf y ≡ Finished j c flag → inner .answer (end inner m mid) (y .event) ≡ y .got → All (Within c) mid
 inside c j flag m [] y p g q k fin e = tt
 inside c j flag m (x ∷ mid) y p g q k fin e =
@@ -134,7 +134,7 @@ inside c j flag m (x ∷ mid) y p g q k fin e =
     (λ (o : On c m (act (x .event)) (x .got)). inside c j flag (inner .next m (x .event)) mid y (o .at) (o .ctx) (q .1) (k .1) fin e)
 
 -- what an accepted Start leads to
-pub record Begun (m : Module) (x : Line) (host context : ℕ) : Type 0 where
+pub record Begun (m : Module) (x : Exchange) (host context : ℕ) : Type 0 where
   pub own : OwnAct (act (x .event))
   pub phase : inner .next m (x .event) .device .transfer .phase ≡ Receiving
   pub ctx : current (inner .next m (x .event) .device .transfer) ≡ context
@@ -142,7 +142,7 @@ pub record Begun (m : Module) (x : Line) (host context : ℕ) : Type 0 where
   pub store-is : storeOf (inner .next m (x .event)) ≡ storeChange (storeOf m) Start
   pub allowed : StartOk (m .device .transfer)
 
-pub begun : (m : Module) (x : Line) (host context : ℕ) → Sound m → kindOf x ≡ Started host context → inner .answer m (x .event) ≡ x .got → Begun m x host context
+pub begun : (m : Module) (x : Exchange) (host context : ℕ) → Sound m → kindOf x ≡ Started host context → inner .answer m (x .event) ≡ x .got → Begun m x host context
 begun m x host context w k p = go
   where
     f : StartAct (act (x .event)) (x .got) host context
@@ -171,7 +171,7 @@ begun m x host context w k p = go
     }
 
 -- from the state before the Start
-pub move-here : (m : Module) (x y : Line) (mid post : History) (host j c flag : ℕ) → Sound m → kindOf x ≡ Started host c → kindOf y ≡ Finished j c flag
+pub move-here : (m : Module) (x y : Exchange) (mid post : History) (host j c flag : ℕ) → Sound m → kindOf x ≡ Started host c → kindOf y ≡ Finished j c flag
     → All Remains (x ∷ (mid ++ (y ∷ post))) → Plays inner m (x ∷ (mid ++ (y ∷ post)))
     → Same inner m (x ∷ (mid ++ (y ∷ post))) (others c mid ++ (x ∷ (ownSends c mid ++ (y ∷ post))))
 move-here m x y mid post host j c flag w st fin k p =

@@ -3,7 +3,7 @@
 use mathlib.Core.Path.{_≡_, refl, _∙_}
 use mathlib.Core.Bool.{Bool, true, false, not}
 use mathlib.Core.List.{List, [], _∷_, _++_}
-use Rattle.rules.specs.History.{Machine, Exchange, Plays, end, historyOf, keep, only, except, All, Same}
+use Rattle.rules.specs.History.{Machine, ExchangeOf, Plays, end, historyOf, keep, only, except, All, Same}
 
 module _ {X : Type 0} (P : X → Type 0) where
   pub all-left : (h k : List X) → All P (h ++ k) → All P h
@@ -45,28 +45,28 @@ module _ {S E A : Type 0} (M : Machine S E A) where
   plays-log s [] = tt
   plays-log s (e ∷ es) = (refl, plays-log (M .next s e) es)
 
-  pub plays-left : (s : S) (h k : List (Exchange E A)) → Plays M s (h ++ k) → Plays M s h
+  pub plays-left : (s : S) (h k : List (ExchangeOf E A)) → Plays M s (h ++ k) → Plays M s h
   plays-left s [] k p = tt
   plays-left s (x ∷ h) k p = (p .0, plays-left (M .next s (x .event)) h k (p .1))
 
-  pub plays-right : (s : S) (h k : List (Exchange E A)) → Plays M s (h ++ k) → Plays M (end M s h) k
+  pub plays-right : (s : S) (h k : List (ExchangeOf E A)) → Plays M s (h ++ k) → Plays M (end M s h) k
   plays-right s [] k p = p
   plays-right s (x ∷ h) k p = plays-right (M .next s (x .event)) h k (p .1)
 
-  pub end-join : (s : S) (h k : List (Exchange E A)) → end M s (h ++ k) ≡ end M (end M s h) k
+  pub end-join : (s : S) (h k : List (ExchangeOf E A)) → end M s (h ++ k) ≡ end M (end M s h) k
   end-join s [] k = refl
   end-join s (x ∷ h) k = end-join (M .next s (x .event)) h k
 
   -- Same is an order, and goes under what stands in front
-  pub same-refl : {s : S} {h : List (Exchange E A)} → Plays M s h → Same M s h h
+  pub same-refl : {s : S} {h : List (ExchangeOf E A)} → Plays M s h → Same M s h h
   same-refl p = record { plays = p; ends = refl }
 
-  pub same-trans : {s : S} {h k l : List (Exchange E A)} → Same M s h k → Same M s k l → Same M s h l
+  pub same-trans : {s : S} {h k l : List (ExchangeOf E A)} → Same M s h k → Same M s k l → Same M s h l
   same-trans a b = record { plays = b .plays; ends = b .ends ∙ a .ends }
 
-  pub same-cons : {s : S} (x : Exchange E A) {h k : List (Exchange E A)} → M .answer s (x .event) ≡ x .got → Same M (M .next s (x .event)) h k → Same M s (x ∷ h) (x ∷ k)
+  pub same-cons : {s : S} (x : ExchangeOf E A) {h k : List (ExchangeOf E A)} → M .answer s (x .event) ≡ x .got → Same M (M .next s (x .event)) h k → Same M s (x ∷ h) (x ∷ k)
   same-cons x a i = record { plays = (a, i .plays); ends = i .ends }
 
-  pub same-under : (s : S) (pre : List (Exchange E A)) {h k : List (Exchange E A)} → Plays M s pre → Same M (end M s pre) h k → Same M s (pre ++ h) (pre ++ k)
+  pub same-under : (s : S) (pre : List (ExchangeOf E A)) {h k : List (ExchangeOf E A)} → Plays M s pre → Same M (end M s pre) h k → Same M s (pre ++ h) (pre ++ k)
   same-under s [] p i = i
   same-under s (x ∷ pre) p i = same-cons x (p .0) (same-under (M .next s (x .event)) pre (p .1) i)

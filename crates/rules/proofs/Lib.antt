@@ -33,7 +33,7 @@ pub mod Pieces
 pub mod Stage
 pub mod Due
 pub mod Again
-pub mod Demand
+pub mod Demand3
 pub mod Checked
 pub mod Incident
 -- Demand 1.

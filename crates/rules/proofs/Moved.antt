@@ -8,10 +8,10 @@ use mathlib.Core.List.{[], _∷_, _++_}
 use Rattle.rules.specs.Transfer.{GetFwInfo, Start, Send, Finish, Query}
 use Rattle.rules.specs.Module.{Module}
 use Rattle.rules.specs.History.{Plays, end, All, Same}
-use Rattle.rules.specs.Transfers.{Answer, machine, Line, History, Kind, Started, Sent, Finished, Ticked, Powered, Other, kindOf}
-use Rattle.rules.specs.Sends.{sendIn, ownSend, ownSends, others, FinishedIn}
-use Rattle.rules.specs.Moves.{moved, ByMoves, as-it-is, one-more, finishIn, itsFinish}
-use Rattle.rules.specs.Demand.{Sound, Move}
+use Rattle.rules.specs.Transfers.{Answer, machine, Exchange, History, Kind, Started, Sent, Finished, Ticked, Powered, Other, kindOf}
+use Rattle.rules.specs.Sends.{isSendOf, ownSend, ownSends, others, FinishedIn}
+use Rattle.rules.specs.Moves.{moved, ByMoves, as-it-is, one-more, isFinishOf, itsFinish}
+use Rattle.rules.specs.Demand3.{Sound, Move}
 use Rattle.rules.proofs.Joining.{all-left, all-right, all-join, all-only, all-except, plays-left, plays-right, same-under}
 use Rattle.rules.proofs.Parts.{Act, Transfers, Others, Ticks, Powers, act, inner, actKind}
 use Rattle.rules.proofs.Through.{kind-act}
@@ -20,7 +20,7 @@ use Rattle.rules.proofs.Swap.{FreeAct, Free}
 use Rattle.rules.proofs.Inside.{Within, Begun, begun, inside, move-here}
 
 -- what holds of every entry holds of every entry after a move
-pub all-move : (P : Line → Type 0) {h : History} (f : FinishedIn h) → All P h → All P (moved f)
+pub all-move : (P : Exchange → Type 0) {h : History} (f : FinishedIn h) → All P h → All P (moved f)
 all-move P f a =
     all-join P (f .before) (others (f .context) (f .between) ++ (f .start ∷ (ownSends (f .context) (f .between) ++ last))) (all-left P (f .before) tail b)
     (all-join P (others (f .context) (f .between)) (f .start ∷ (ownSends (f .context) (f .between) ++ last)) (all-except P (ownSend (f .context)) (f .between) mid)
@@ -41,7 +41,7 @@ all-move P f a =
     mid : All P (f .between)
     mid = all-left P (f .between) last (c .1)
 
-pub all-by-moves : (P : Line → Type 0) {h k : History} → ByMoves h k → All P h → All P k
+pub all-by-moves : (P : Exchange → Type 0) {h k : History} → ByMoves h k → All P h → All P k
 all-by-moves P as-it-is a = a
 all-by-moves P (one-more b f) a = all-move P f (all-by-moves P b a)
 
@@ -86,7 +86,7 @@ between-within m f w p k =
     b = begun u (f .start) (f .starter) (f .context) (sound-inner m (f .before) w) (f .starts) (r .0)
 
 -- the kinds of what stands there
-pub send-no-finish : (c : ℕ) (k : Kind) → sendIn c k ≡ true → finishIn c k ≡ false
+pub send-no-finish : (c : ℕ) (k : Kind) → isSendOf c k ≡ true → isFinishOf c k ≡ false
 send-no-finish c (Started host context) e = refl
 send-no-finish c (Sent host context offset piece) e = refl
 send-no-finish c (Finished host context flag) e = absurd (false≢true e)
@@ -104,15 +104,15 @@ free-kind (Others a b x n answer) got r = inr refl
 free-kind Ticks got r = inl refl
 free-kind Powers got r = absurd r
 
-pub free-of : (x : Line) → Free x → (kindOf x ≡ Ticked) ⊎ (kindOf x ≡ Other)
+pub free-of : (x : Exchange) → Free x → (kindOf x ≡ Ticked) ⊎ (kindOf x ≡ Other)
 unfolding Free
 free-of x f = rw (kind-act x) (free-kind (act (x .event)) (x .got) f)
 
-either-no-finish : (c : ℕ) (k : Kind) → (k ≡ Ticked) ⊎ (k ≡ Other) → finishIn c k ≡ false
-either-no-finish c k (inl e) = ap (finishIn c) e
-either-no-finish c k (inr e) = ap (finishIn c) e
+either-no-finish : (c : ℕ) (k : Kind) → (k ≡ Ticked) ⊎ (k ≡ Other) → isFinishOf c k ≡ false
+either-no-finish c k (inl e) = ap (isFinishOf c) e
+either-no-finish c k (inr e) = ap (isFinishOf c) e
 
-no-finish : (c : ℕ) (x : Line) → Within c x → itsFinish c x ≡ false
+no-finish : (c : ℕ) (x : Exchange) → Within c x → itsFinish c x ≡ false
 no-finish c x (inl q) = send-no-finish c (kindOf x) (q .0)
 no-finish c x (inr q) = either-no-finish c (kindOf x) (free-of x (q .1))
 

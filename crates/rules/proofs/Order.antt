@@ -15,8 +15,8 @@ use Rattle.rules.specs.Refusals.{refused?}
 use Rattle.rules.specs.Transfer.{TransferCall, GetFwInfo, Start, Send, Finish, Query, receivedBytes}
 use Rattle.rules.specs.Module.{Module}
 use Rattle.rules.specs.History.{Plays, end, All}
-use Rattle.rules.specs.Transfers.{Answer, Line, History, Kind, Started, Sent, Finished, Ticked, Powered, Other, kindOf, Open, none, by, sentIn, withPiece, opens, openAfter}
-use Rattle.rules.specs.Demand.{AnsweredTo, remains, Sound}
+use Rattle.rules.specs.Transfers.{Answer, Exchange, History, Kind, Started, Sent, Finished, Ticked, Powered, Other, kindOf, Open, none, by, bytesSoFar, withPiece, opens, InOpen, InOrder, AllInOrder}
+use Rattle.rules.specs.Demand3.{AnsweredTo, remains, Sound}
 use Rattle.rules.specs.declared.Phase.{Phase}
 use Rattle.rules.specs.declared.Phase.the-variants.{Receiving, Verifying}
 use Rattle.rules.specs.declared.Transfer.{Transfer}
@@ -44,23 +44,10 @@ abbrev pub Fits : Open → Store → Type 0
 Fits none s = (s .transfer .phase is Receiving) ≡ false
 Fits (by host context bytes) s = Holding context bytes s
 
--- with the context of the open transfer
-abbrev pub InOpen : Open → (context : ℕ) → Type 0
-InOpen none context = ⊥
-InOpen (by host given bytes) context = context ≡ given
-
--- in turn, whoever calls
-abbrev pub InOrder : Open → Kind → Type 0
-InOrder now (Started host context) = now ≡ none
-InOrder now (Sent host context offset piece) = InOpen now context × (offset ≡ length (sentIn now))
-InOrder now (Finished host context flag) = InOpen now context
-InOrder now Ticked = Unit {0}
-InOrder now Powered = Unit {0}
-InOrder now Other = Unit {0}
-
-abbrev pub AllInOrder : Open → History → Type 0
-AllInOrder now [] = Unit {0}
-AllInOrder now (x ∷ h) = InOrder now (kindOf x) × AllInOrder (opens now (kindOf x)) h
+-- which transfer is open after a history
+abbrev pub openAfter : Open → History → Open
+openAfter now [] = now
+openAfter now (x ∷ h) = openAfter (opens now (kindOf x)) h
 
 -- a Send's or a Finish's context was answered to its host
 abbrev pub UsesKind : History → Kind → Type 0
@@ -92,12 +79,12 @@ in-open : (o : Open) (s : Store) (context : ℕ) → Fits o s → s .transfer .p
 in-open none s context f p g = never (sym (ap (λ (q : Phase). q is Receiving) p) ∙ f)
 in-open (by host c bytes) s context f p g = g ∙ f .ctx
 
-count-open : (o : Open) (s : Store) → Fits o s → s .transfer .phase ≡ Receiving → s .transfer .received ≡ length (sentIn o)
+count-open : (o : Open) (s : Store) → Fits o s → s .transfer .phase ≡ Receiving → s .transfer .received ≡ length (bytesSoFar o)
 count-open none s f p = never (sym (ap (λ (q : Phase). q is Receiving) p) ∙ f)
 count-open (by host context bytes) s f p = f .count
 
 -- where the record is receiving, the received bytes are those of the open transfer
-pub bytes-open : (o : Open) (s : Store) → Fits o s → s .transfer .phase ≡ Receiving → receivedBytes (s .transfer) (s .area) ≡ sentIn o
+pub bytes-open : (o : Open) (s : Store) → Fits o s → s .transfer .phase ≡ Receiving → receivedBytes (s .transfer) (s .area) ≡ bytesSoFar o
 bytes-open none s f p = never (sym (ap (λ (q : Phase). q is Receiving) p) ∙ f)
 bytes-open (by host context bytes) s f p = f .held
 
@@ -134,7 +121,7 @@ goes-other f o s u w q = subst (λ (z : Store). Goes f o Other s z) (sym q) (rec
 pub chosen : (got : Answer) (k : Kind) → refused? (got .reply .verdict) ≡ false → (if refused? (got .reply .verdict) then Other else k) ≡ k
 chosen got k e = rw e
 
-goes-act : (x : Line) (o : Open) (m : Module) (f : Act) → act (x .event) ≡ f → kindOf x ≡ actKind f (x .got) → Sound m → Fits o (storeOf m) → answers m f ≡ x .got → Kept (x .got)
+goes-act : (x : Exchange) (o : Open) (m : Module) (f : Act) → act (x .event) ≡ f → kindOf x ≡ actKind f (x .got) → Sound m → Fits o (storeOf m) → answers m f ≡ x .got → Kept (x .got)
     → Goes f o (actKind f (x .got)) (storeOf m) (storeOf (nexts m f))
 goes-act x o m (Transfers host a b GetFwInfo n answer) is-f e sound w p k =
     goes-other (Transfers host a b GetFwInfo n answer) o (storeOf m) (storeNext (storeOf m) a b GetFwInfo) w
@@ -189,7 +176,7 @@ goes-act x o m Ticks is-f e sound w p k =
     record { order = tt; fits = tick-fits o (storeOf m) w t; same-given = λ z. tick-contexts (m .device .transfer) (m .area) t; used = λ past u. tt }
 goes-act x o m Powers is-f e sound w p k = record { order = tt; fits = refl; same-given = λ z. refl; used = λ past u. tt }
 
-pub goes : (x : Line) (o : Open) (m : Module) → Sound m → Fits o (storeOf m) → inner .answer m (x .event) ≡ x .got → Kept (x .got)
+pub goes : (x : Exchange) (o : Open) (m : Module) → Sound m → Fits o (storeOf m) → inner .answer m (x .event) ≡ x .got → Kept (x .got)
     → Goes (act (x .event)) o (kindOf x) (storeOf m) (storeOf (inner .next m (x .event)))
 goes x o m sound w p k =
     subst (λ (z : Kind). Goes (act (x .event)) o z (storeOf m) (storeOf (inner .next m (x .event)))) (sym (kind-act x)) (goes-act x o m (act (x .event)) refl (kind-act x) sound w p k)

@@ -11,9 +11,9 @@ use Rattle.rules.specs.Table.{rowOf, served?, fits?, mask}
 use Rattle.rules.specs.Thresholds.{ThresholdCall, thresholdChecks, thresholdAnswer, thresholdChange}
 use Rattle.rules.specs.Transfer.{TransferCall, transferChecks, transferAnswer, transferChange, transferArea, tickChange, transferPower}
 use Rattle.rules.specs.Security.{SecurityCall, securityChecks, securityAnswer, securityChange, securityPower}
-use Rattle.rules.specs.Module.{Call, OnMask, OnThresholds, OnTransfer, OnSecurity, OnNothing, Module, Event, call, tick, power, reply}
+use Rattle.rules.specs.Module.{Call, OnMask, OnThresholds, OnTransfer, OnSecurity, OnNothing, Module, Event, call, tick, power, reply, callIn}
 use Rattle.rules.specs.History.{Machine}
-use Rattle.rules.specs.Transfers.{Answer, Kind, Ticked, Powered, Other, callIn, callKind}
+use Rattle.rules.specs.Transfers.{Answer, Kind, Ticked, Powered, Other, callKind}
 use Rattle.rules.specs.declared.Refusal.the-variants.{R, Status}
 use Rattle.rules.specs.declared.Verdict.{Verdict}
 use Rattle.rules.specs.declared.Verdict.the-variants.{Accepted, Refused}

@@ -10,15 +10,15 @@ use borrow.Author.Tests.{eq-eqb}
 use Rattle.rules.specs.Transfer.{receivedBytes}
 use Rattle.rules.specs.Module.{Module}
 use Rattle.rules.specs.History.{Plays, end, All, keep}
-use Rattle.rules.specs.Transfers.{machine, Line, History, Kind, Started, Sent, Finished, Ticked, Powered, Other, kindOf, Open, none, by, sentIn, opens, openAfter, InTurn, AllInTurn}
-use Rattle.rules.specs.Sends.{sendIn, ownSends, pieceOf, pieces, SentBy, FinishedIn}
-use Rattle.rules.specs.Demand.{Sound, Received, OwnPieces}
+use Rattle.rules.specs.Transfers.{machine, Exchange, History, Kind, Started, Sent, Finished, Ticked, Powered, Other, kindOf, Open, none, by, bytesSoFar, opens, InTurn, AllInTurn, InOrder, AllInOrder}
+use Rattle.rules.specs.Sends.{isSendOf, ownSends, pieceOf, pieces, SentBy, FinishedIn}
+use Rattle.rules.specs.Demand3.{Sound, Received, OwnPieces}
 use Rattle.rules.proofs.Joining.{all-left, plays-left, plays-right}
 use Rattle.rules.proofs.Parts.{storeOf, inner}
 use Rattle.rules.proofs.Gate.{Remains, inwards}
 use Rattle.rules.proofs.Inside.{Within, finish-at}
 use Rattle.rules.proofs.Moved.{between-within, free-of}
-use Rattle.rules.proofs.Order.{Fits, InOrder, AllInOrder, bytes-open, fits-at}
+use Rattle.rules.proofs.Order.{openAfter, Fits, bytes-open, fits-at}
 
 pub open-join : (o : Open) (h k : History) → openAfter o (h ++ k) ≡ openAfter (openAfter o h) k
 open-join o [] k = refl
@@ -37,7 +37,7 @@ turns-right o [] k u = u
 turns-right o (x ∷ h) k u = turns-right (opens o (kindOf x)) h k (u .1)
 
 -- an own Send adds its piece; one that may move adds nothing
-own-opens : (host c : ℕ) (bytes : List ℕ) (k : Kind) → sendIn c k ≡ true → opens (by host c bytes) k ≡ by host c (bytes ++ pieceOf k)
+own-opens : (host c : ℕ) (bytes : List ℕ) (k : Kind) → isSendOf c k ≡ true → opens (by host c bytes) k ≡ by host c (bytes ++ pieceOf k)
 own-opens host c bytes (Started j d) e = absurd (false≢true e)
 own-opens host c bytes (Sent j d offset piece) e = refl
 own-opens host c bytes (Finished j d flag) e = absurd (false≢true e)
@@ -45,7 +45,7 @@ own-opens host c bytes Ticked e = absurd (false≢true e)
 own-opens host c bytes Powered e = absurd (false≢true e)
 own-opens host c bytes Other e = absurd (false≢true e)
 
-own-sender : (host c : ℕ) (bytes : List ℕ) (k : Kind) → sendIn c k ≡ true → InTurn (by host c bytes) k → SentBy host k
+own-sender : (host c : ℕ) (bytes : List ℕ) (k : Kind) → isSendOf c k ≡ true → InTurn (by host c bytes) k → SentBy host k
 own-sender host c bytes (Started j d) e t = absurd (false≢true e)
 own-sender host c bytes (Sent j d offset piece) e t = t .0 .0
 own-sender host c bytes (Finished j d flag) e t = absurd (false≢true e)
@@ -58,7 +58,7 @@ free-opens o k (inl e) = ap (opens o) e
 free-opens o k (inr e) = ap (opens o) e
 
 -- what is open after what stands between
-between-step : (host c : ℕ) (bytes : List ℕ) (x : Line) (mid : History) → Within c x
+between-step : (host c : ℕ) (bytes : List ℕ) (x : Exchange) (mid : History) → Within c x
     → ((b : List ℕ) → openAfter (by host c b) mid ≡ by host c (b ++ pieces (ownSends c mid)))
     → openAfter (by host c bytes) (x ∷ mid) ≡ by host c (bytes ++ pieces (ownSends c (x ∷ mid)))
 between-step host c bytes x mid (inl q) i =
@@ -76,7 +76,7 @@ open-between host c [] a bytes = ap (by host c) (sym (append-nil bytes))
 open-between host c (x ∷ mid) a bytes = between-step host c bytes x mid (a .0) (open-between host c mid (a .1))
 
 -- every own Send there is by the host of the Start
-sender-step : (host c : ℕ) (bytes : List ℕ) (x : Line) (mid : History) → Within c x → AllInTurn (by host c bytes) (x ∷ mid)
+sender-step : (host c : ℕ) (bytes : List ℕ) (x : Exchange) (mid : History) → Within c x → AllInTurn (by host c bytes) (x ∷ mid)
     → ((b : List ℕ) → AllInTurn (by host c b) mid → All (λ z. SentBy host (kindOf z)) (ownSends c mid))
     → All (λ z. SentBy host (kindOf z)) (ownSends c (x ∷ mid))
 sender-step host c bytes x mid (inl q) t i =
@@ -128,7 +128,7 @@ module _ (m : Module) (h : History) (f : FinishedIn h) where
           bytes-open (openAfter none pre) (storeOf (end inner m pre))
           (fits-at none m pre sound w (plays-left inner m pre last q) (all-left Remains pre last (subst (All Remains) whole k)))
           (finish-at (end inner m pre) (f .finish) (f .finisher) (f .context) (f .flag) (f .finishes) (plays-right inner m pre last q .0) .at)
-          ∙ ap sentIn (open-is (between-within m f sound p k))
+          ∙ ap bytesSoFar (open-is (between-within m f sound p k))
 
   -- The received bytes are its own pieces, whoever called.
   pub received : Sound m → Fits none (storeOf m) → Plays machine m h → All Remains h → Received m f
@@ -160,7 +160,7 @@ module _ (m : Module) (h : History) (f : FinishedIn h) where
 -- An open transfer has a Start, and its bytes are those of its own Sends since.
 pub record Opened (h : History) (host context : ℕ) (bytes : List ℕ) : Type 0 where
   pub before : History
-  pub start : Line
+  pub start : Exchange
   pub between : History
   pub whole : h ≡ before ++ (start ∷ between)
   pub starts : kindOf start ≡ Started host context
@@ -170,7 +170,7 @@ pub record Opened (h : History) (host context : ℕ) (bytes : List ℕ) : Type 0
 Still : Open → History → (host context : ℕ) (bytes : List ℕ) → Type 0
 Still o h host context bytes = (first : List ℕ) × (o ≡ by host context first) × (bytes ≡ first ++ pieces (ownSends context h))
 
-opened-step : (o : Open) (x : Line) (h : History) (host context : ℕ) (bytes : List ℕ) (k : Kind) → kindOf x ≡ k → InOrder o k
+opened-step : (o : Open) (x : Exchange) (h : History) (host context : ℕ) (bytes : List ℕ) (k : Kind) → kindOf x ≡ k → InOrder o k
     → Still (opens o k) h host context bytes → Still o (x ∷ h) host context bytes ⊎ Opened (x ∷ h) host context bytes
 unfolding Still
 opened-step o x h host context bytes (Started j d) e t s =
@@ -192,12 +192,12 @@ opened-step (by starter c sofar) x h host context bytes (Sent j d offset piece) 
           ∙ ap (λ (z : List ℕ). z ++ pieces (ownSends context h)) firsts
           ∙ append-assoc sofar piece (pieces (ownSends context h))
           ∙ ap (λ (z : Kind). sofar ++ (pieceOf z ++ pieces (ownSends context h))) (sym e)
-          ∙ ap (λ (b : Bool). sofar ++ pieces (keep b x (ownSends context h))) (sym (ap (sendIn context) e ∙ eq-eqb d context (t .0 ∙ contexts))),
+          ∙ ap (λ (b : Bool). sofar ++ pieces (keep b x (ownSends context h))) (sym (ap (isSendOf context) e ∙ eq-eqb d context (t .0 ∙ contexts))),
     )
 opened-step o x h host context bytes (Finished j d flag) e t s = let same : none ≡ by host context (s .0) = s .1 in let z : _≡_ {A = ℕ} 0 1 = cc in absurd (omega arith)
-opened-step o x h host context bytes Ticked e t s = inl (s .0, s .1, s .2 ∙ ap (λ (b : Bool). s .0 ++ pieces (keep b x (ownSends context h))) (sym (ap (sendIn context) e)))
+opened-step o x h host context bytes Ticked e t s = inl (s .0, s .1, s .2 ∙ ap (λ (b : Bool). s .0 ++ pieces (keep b x (ownSends context h))) (sym (ap (isSendOf context) e)))
 opened-step o x h host context bytes Powered e t s = let same : none ≡ by host context (s .0) = s .1 in let z : _≡_ {A = ℕ} 0 1 = cc in absurd (omega arith)
-opened-step o x h host context bytes Other e t s = inl (s .0, s .1, s .2 ∙ ap (λ (b : Bool). s .0 ++ pieces (keep b x (ownSends context h))) (sym (ap (sendIn context) e)))
+opened-step o x h host context bytes Other e t s = inl (s .0, s .1, s .2 ∙ ap (λ (b : Bool). s .0 ++ pieces (keep b x (ownSends context h))) (sym (ap (isSendOf context) e)))
 
 opened-from : (o : Open) (h : History) (host context : ℕ) (bytes : List ℕ) → AllInOrder o h → openAfter o h ≡ by host context bytes → Still o h host context bytes ⊎ Opened h host context bytes
 unfolding Still

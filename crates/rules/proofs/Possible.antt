@@ -14,7 +14,7 @@ use Rattle.rules.specs.Record.{fresh, possible, possibleTransfer, possib
 use Rattle.rules.specs.Module.{Module, Event, step}
 use Rattle.rules.specs.History.{end}
 use Rattle.rules.specs.Transfers.{machine, History}
-use Rattle.rules.specs.Demand.{freshWith, Sound}
+use Rattle.rules.specs.Demand3.{freshWith, Sound}
 use Rattle.rules.specs.declared.Refusal.the-variants.{R}
 use Rattle.rules.specs.declared.Verdict.the-variants.{Refused}
 use Rattle.rules.specs.declared.Device.{Device}

@@ -11,11 +11,11 @@ use Rattle.rules.specs.Image.{imageOf}
 use Rattle.rules.specs.Refusals.{refused?}
 use Rattle.rules.specs.Table.{rowOf}
 use Rattle.rules.specs.Transfer.{TransferCall, GetFwInfo, Start, Send, Finish, Query, receivedBytes}
-use Rattle.rules.specs.Module.{Call, OnMask, OnThresholds, OnTransfer, OnSecurity, OnNothing, Module, Event, call, tick, power}
+use Rattle.rules.specs.Module.{Call, OnMask, OnThresholds, OnTransfer, OnSecurity, OnNothing, Module, Event, call, tick, power, callIn}
 use Rattle.rules.specs.History.{end}
-use Rattle.rules.specs.Transfers.{Answer, machine, Line, History, Kind, Started, Sent, Finished, Other, callIn, callKind, kindOf}
+use Rattle.rules.specs.Transfers.{Answer, machine, Exchange, History, Kind, Started, Sent, Finished, Other, callKind, kindOf}
 use Rattle.rules.specs.Sends.{tickCount, ticksIn, powerCount, powerCycles}
-use Rattle.rules.specs.Demand.{Sound, Stages, StagedOnce}
+use Rattle.rules.specs.Demand3.{Sound, Stages, StagedOnce}
 use Rattle.rules.specs.declared.Verdict.the-variants.{Accepted}
 use Rattle.rules.specs.declared.Image.the-variants.{Good, Bad}
 use Rattle.rules.specs.declared.Phase.{Phase}
@@ -143,7 +143,7 @@ staged-act m (Others a b x n answer) got p z = p
 staged-act m Ticks got p z = ap (λ (s : Store). s .transfer .phase) (still (storeOf m) (ap (λ (q : Phase). q is Verifying) p)) ∙ p
 staged-act m Powers got p z = absurd (omega arith)
 
-staged-step : (m : Module) (x : Line) → Sound m → m .device .transfer .phase ≡ Staged → powerCount (kindOf x) ≡ 0 → machine .next m (x .event) .device .transfer .phase ≡ Staged
+staged-step : (m : Module) (x : Exchange) → Sound m → m .device .transfer .phase ≡ Staged → powerCount (kindOf x) ≡ 0 → machine .next m (x .event) .device .transfer .phase ≡ Staged
 staged-step m x w p z = go (bufferTooShort (x .event)) refl
   where
     go : (b : Bool) → bufferTooShort (x .event) ≡ b → machine .next m (x .event) .device .transfer .phase ≡ Staged

@@ -7,10 +7,10 @@ use mathlib.Core.List.{List}
 use native.Mathlib.Omega.{arith}
 use Rattle.rules.specs.Refusals.{verdict, eventChecks, oneAttemptMore}
 use Rattle.rules.specs.Table.{rowOf}
-use Rattle.rules.specs.Module.{Call, Module, Event, call, tick, power, after, outcome, happened, callChecks, callResult, tickResult, powerResult}
+use Rattle.rules.specs.Module.{Call, Module, Event, call, tick, power, after, outcome, happened, callChecks, callResult, tickResult, powerResult, outOf, callIn}
 use Rattle.rules.specs.History.{Plays}
-use Rattle.rules.specs.Transfers.{Answer, outOf, machine, History, callIn}
-use Rattle.rules.specs.Demand.{remains, StrikeOut}
+use Rattle.rules.specs.Transfers.{Answer, machine, History}
+use Rattle.rules.specs.Demand3.{remains, StrikeOut}
 use Rattle.rules.specs.declared.Refusal.the-variants.{R, Status}
 use Rattle.rules.specs.declared.Verdict.{Verdict}
 use Rattle.rules.specs.declared.Verdict.the-variants.{Accepted, Refused}

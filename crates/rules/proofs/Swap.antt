@@ -8,8 +8,8 @@ use Rattle.rules.specs.Record.{_is_}
 use Rattle.rules.specs.Refusals.{verdict}
 use Rattle.rules.specs.Transfer.{TransferCall, GetFwInfo, Start, Send, Finish, Query}
 use Rattle.rules.specs.Module.{Module}
-use Rattle.rules.specs.Transfers.{Answer, Line}
-use Rattle.rules.specs.Demand.{remains, Sound}
+use Rattle.rules.specs.Transfers.{Answer, Exchange}
+use Rattle.rules.specs.Demand3.{remains, Sound}
 use Rattle.rules.specs.declared.Verdict.{Verdict}
 use Rattle.rules.specs.declared.Verdict.the-variants.{Accepted, Refused}
 use Rattle.rules.specs.declared.Phase.{Phase}
@@ -123,11 +123,11 @@ swap m host a b x n answer Ticks e₁ e₂ w f p q =
 swap m host a b x n answer Powers e₁ e₂ w f p q = absurd f
 
 -- of entries
-pub record Own (x : Line) : Type 0 where
+pub record Own (x : Exchange) : Type 0 where
   pub which : OwnAct (act (x .event))
   pub kept : Kept (x .got)
 
-unfoldable pub Free : Line → Type 0
+unfoldable pub Free : Exchange → Type 0
 Free y = FreeAct (act (y .event))
 
 swap-own : (m : Module) (g f : Act) (e₁ e₂ : Answer) → OwnAct g → Kept e₁ → FreeAct f → answers m g ≡ e₁ → answers (nexts m g) f ≡ e₂
@@ -138,7 +138,7 @@ swap-own m (Others a b x n answer) f e₁ e₂ o k r p q = absurd o
 swap-own m Ticks f e₁ e₂ o k r p q = absurd o
 swap-own m Powers f e₁ e₂ o k r p q = absurd o
 
-pub swaps : (m : Module) (x y : Line) → Sound m → Own x → Free y → inner .answer m (x .event) ≡ x .got → inner .answer (inner .next m (x .event)) (y .event) ≡ y .got → Swaps inner m x y
+pub swaps : (m : Module) (x y : Exchange) → Sound m → Own x → Free y → inner .answer m (x .event) ≡ x .got → inner .answer (inner .next m (x .event)) (y .event) ≡ y .got → Swaps inner m x y
 unfolding Free
 swaps m x y w o f p q =
     let z = swap-own m (act (x .event)) (act (y .event)) (x .got) (y .got) (o .which) (o .kept) f p q in

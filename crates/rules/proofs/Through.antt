@@ -14,9 +14,9 @@ use Rattle.rules.specs.Table.{rowOf}
 use Rattle.rules.specs.Thresholds.{GetThreshold, SetThreshold}
 use Rattle.rules.specs.Security.{GetSecurityState, SetPassphrase, Disable, Unlock, Freeze}
 use Rattle.rules.specs.Transfer.{TransferCall, GetFwInfo, Start, Send, Finish, Query, transferChecks}
-use Rattle.rules.specs.Module.{Call, OnMask, OnThresholds, OnTransfer, OnSecurity, OnNothing, Module, Event, call, tick, power, after, checks, accepted, outcome, callChecks, callResult, tickResult, powerResult}
-use Rattle.rules.specs.Transfers.{Answer, outOf, machine, Line, callIn, callKind, kindOf, eventKind}
-use Rattle.rules.specs.Demand.{remains}
+use Rattle.rules.specs.Module.{Call, OnMask, OnThresholds, OnTransfer, OnSecurity, OnNothing, Module, Event, call, tick, power, after, checks, accepted, outcome, callChecks, callResult, tickResult, powerResult, outOf, callIn}
+use Rattle.rules.specs.Transfers.{Answer, machine, Exchange, callKind, kindOf, eventKind}
+use Rattle.rules.specs.Demand3.{remains}
 use Rattle.rules.specs.Demand1.{bufferTooShort}
 use Rattle.rules.specs.declared.Refusal.the-variants.{R, Status}
 use Rattle.rules.specs.declared.Verdict.{Verdict}
@@ -227,5 +227,5 @@ kind-event (call host revision index request answer) got = kind-call host (unser
 kind-event tick got = refl
 kind-event power got = refl
 
-pub kind-act : (x : Line) → kindOf x ≡ actKind (act (x .event)) (x .got)
+pub kind-act : (x : Exchange) → kindOf x ≡ actKind (act (x .event)) (x .got)
 kind-act x = kind-event (x .event) (x .got)

@@ -7,15 +7,15 @@ use mathlib.Core.List.{List, [], _∷_}
 use native.Mathlib.Omega.{arith}
 use Rattle.rules.specs.Module.{Module}
 use Rattle.rules.specs.History.{Plays, All}
-use Rattle.rules.specs.Transfers.{Line, History, Kind, Started, Sent, Finished, Ticked, Powered, Other, kindOf, Open, none, by, withPiece, opens, OfOpen, InTurn, AllInTurn}
-use Rattle.rules.specs.Demand.{AnsweredTo, HonestAfter, Sound}
+use Rattle.rules.specs.Transfers.{Exchange, History, Kind, Started, Sent, Finished, Ticked, Powered, Other, kindOf, Open, none, by, withPiece, opens, OfOpen, InTurn, AllInTurn, InOpen, InOrder}
+use Rattle.rules.specs.Demand3.{AnsweredTo, HonestAfter, Sound}
 use Rattle.rules.proofs.Parts.{Store, storeOf, act, inner}
 use Rattle.rules.proofs.Possible.{sound-act}
 use Rattle.rules.proofs.Gate.{Remains}
 use Rattle.rules.proofs.KindOf.{NoStart}
 use Rattle.rules.proofs.Inside.{given, Begun, begun}
 use Rattle.rules.proofs.Honest.{uses-act}
-use Rattle.rules.proofs.Order.{Fits, InOpen, InOrder, UsesKind, goes}
+use Rattle.rules.proofs.Order.{Fits, UsesKind, goes}
 
 -- the open transfer's context was answered to its host alone
 abbrev Sole : History → Open → Type 0
@@ -31,15 +31,15 @@ pub hosts-fresh : (s : Store) → Hosts [] none s
 hosts-fresh s = record { sole = tt; below = λ host context m. absurd m }
 
 -- an entry that is no Start adds no Start
-older : (past : History) (x : Line) (k : Kind) (host context : ℕ) → kindOf x ≡ k → NoStart k → AnsweredTo host context (x ∷ past) → AnsweredTo host context past
+older : (past : History) (x : Exchange) (k : Kind) (host context : ℕ) → kindOf x ≡ k → NoStart k → AnsweredTo host context (x ∷ past) → AnsweredTo host context past
 older past x k host context e n (inl q) = absurd (subst NoStart (sym e ∙ q) n)
 older past x k host context e n (inr m) = m
 
-sole-older : (past : History) (x : Line) (k : Kind) (o : Open) → kindOf x ≡ k → NoStart k → Sole past o → Sole (x ∷ past) o
+sole-older : (past : History) (x : Exchange) (k : Kind) (o : Open) → kindOf x ≡ k → NoStart k → Sole past o → Sole (x ∷ past) o
 sole-older past x k none e n s = tt
 sole-older past x k (by host context bytes) e n s = λ j m. s j (older past x k j context e n m)
 
-add : (past : History) (x : Line) (k : Kind) (o o′ : Open) (s u : Store) → kindOf x ≡ k → NoStart k → Hosts past o s → Sole past o′ → given u ≡ given s → Hosts (x ∷ past) o′ u
+add : (past : History) (x : Exchange) (k : Kind) (o o′ : Open) (s u : Store) → kindOf x ≡ k → NoStart k → Hosts past o s → Sole past o′ → given u ≡ given s → Hosts (x ∷ past) o′ u
 add past x k o o′ s u e n w so g =
     record { sole = sole-older past x k o′ e n so; below = λ host context m. rw g (w .below host context (older past x k host context e n m)) }
 
@@ -48,7 +48,7 @@ sole-piece past none piece s = tt
 sole-piece past (by host context bytes) piece s = s
 
 -- a Start
-hosts-start : (past : History) (x : Line) (o : Open) (m : Module) (host context : ℕ) → kindOf x ≡ Started host context → Begun m x host context → Hosts past o (storeOf m)
+hosts-start : (past : History) (x : Exchange) (o : Open) (m : Module) (host context : ℕ) → kindOf x ≡ Started host context → Begun m x host context → Hosts past o (storeOf m)
     → Hosts (x ∷ past) (by host context []) (storeOf (inner .next m (x .event)))
 hosts-start past x o m host context e b w = record { sole = sole; below = below }
   where
@@ -65,11 +65,11 @@ of-open : (past : History) (o : Open) (host context : ℕ) → Sole past o → I
 of-open past none host context s i m = absurd i
 of-open past (by starter c bytes) host context s i m = (s host (subst (λ (n : ℕ). AnsweredTo host n past) i m), i)
 
-record Turned (past : History) (x : Line) (o : Open) (k : Kind) (u : Store) : Type 0 where
+record Turned (past : History) (x : Exchange) (o : Open) (k : Kind) (u : Store) : Type 0 where
   turn : InTurn o k
   hosts : Hosts (x ∷ past) (opens o k) u
 
-turned : (past : History) (x : Line) (o : Open) (m : Module) (k : Kind) → kindOf x ≡ k → Sound m → inner .answer m (x .event) ≡ x .got → Hosts past o (storeOf m) → InOrder o k → UsesKind past k
+turned : (past : History) (x : Exchange) (o : Open) (m : Module) (k : Kind) → kindOf x ≡ k → Sound m → inner .answer m (x .event) ≡ x .got → Hosts past o (storeOf m) → InOrder o k → UsesKind past k
     → (NoStart k → given (storeOf (inner .next m (x .event))) ≡ given (storeOf m)) → Turned past x o k (storeOf (inner .next m (x .event)))
 turned past x o m (Started host context) e sound p w i u g = record { turn = i; hosts = hosts-start past x o m host context e (begun m x host context sound e p) w }
 turned past x o m (Sent host context offset piece) e sound p w i u g =

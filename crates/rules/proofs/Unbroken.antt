@@ -9,10 +9,10 @@ use native.Mathlib.Omega.{arith}
 use borrow.Author.Tests.{eqb-true, eq-eqb}
 use Rattle.rules.specs.Module.{Module}
 use Rattle.rules.specs.History.{Plays, All, Same, some, upTo, onFrom}
-use Rattle.rules.specs.Transfers.{machine, Line, History, Kind, Started, Sent, Finished, Ticked, Powered, Other, kindOf}
-use Rattle.rules.specs.Sends.{sendIn, ownSends, others, FinishedIn}
-use Rattle.rules.specs.Moves.{moved, ByMoves, as-it-is, one-more, finishIn, itsFinish, settle, rearranged, Unbroken}
-use Rattle.rules.specs.Demand.{Sound, AllMoved}
+use Rattle.rules.specs.Transfers.{machine, Exchange, History, Kind, Started, Sent, Finished, Ticked, Powered, Other, kindOf}
+use Rattle.rules.specs.Sends.{isSendOf, ownSends, others, FinishedIn}
+use Rattle.rules.specs.Moves.{moved, ByMoves, as-it-is, one-more, isFinishOf, itsFinish, settle, rearranged, Unbroken}
+use Rattle.rules.specs.Demand3.{Sound, AllMoved}
 use Rattle.rules.proofs.Choice.{or-true}
 use Rattle.rules.proofs.Joining.{same-refl, same-trans}
 use Rattle.rules.proofs.Possible.{sound-next}
@@ -23,7 +23,7 @@ use Rattle.rules.proofs.Moved.{move, all-by-moves, between-within, free
 
 -- the first Finish of the context c in r
 record Split (c : ℕ) (r : History) : Type 0 where
-  finish : Line
+  finish : Exchange
   since : History
   finisher : ℕ
   flag : ℕ
@@ -31,7 +31,7 @@ record Split (c : ℕ) (r : History) : Type 0 where
   from : onFrom (itsFinish c) r ≡ finish ∷ since
   whole : r ≡ upTo (itsFinish c) r ++ (finish ∷ since)
 
-finish-of : (c : ℕ) (k : Kind) → finishIn c k ≡ true → (host : ℕ) × (flag : ℕ) × (k ≡ Finished host c flag)
+finish-of : (c : ℕ) (k : Kind) → isFinishOf c k ≡ true → (host : ℕ) × (flag : ℕ) × (k ≡ Finished host c flag)
 finish-of c (Started host context) e = absurd (false≢true e)
 finish-of c (Sent host context offset piece) e = absurd (false≢true e)
 finish-of c (Finished host context flag) e = (host, flag, ap (λ (z : ℕ). Finished host z flag) (eqb-true context c e))
@@ -39,7 +39,7 @@ finish-of c Ticked e = absurd (false≢true e)
 finish-of c Powered e = absurd (false≢true e)
 finish-of c Other e = absurd (false≢true e)
 
-split-step : (c : ℕ) (b : Bool) (x : Line) (r : History) → itsFinish c x ≡ b → (b || some (itsFinish c) r) ≡ true → (some (itsFinish c) r ≡ true → Split c r) → Split c (x ∷ r)
+split-step : (c : ℕ) (b : Bool) (x : Exchange) (r : History) → itsFinish c x ≡ b → (b || some (itsFinish c) r) ≡ true → (some (itsFinish c) r ≡ true → Split c r) → Split c (x ∷ r)
 split-step c true x r e s i =
     let q = finish-of c (kindOf x) e in
     record { finish = x; since = r; finisher = q .0; flag = q .1; finishes = q .2; from = rw e; whole = rw e }
@@ -52,7 +52,7 @@ split c [] s = absurd (false≢true s)
 split c (x ∷ r) s = split-step c (itsFinish c x) x r refl s (split c r)
 
 -- a Start whose Finish follows
-abbrev found : (x : Line) (r : History) (host c : ℕ) → kindOf x ≡ Started host c → Split c r → FinishedIn (x ∷ r)
+abbrev found : (x : Exchange) (r : History) (host c : ℕ) → kindOf x ≡ Started host c → Split c r → FinishedIn (x ∷ r)
 found x r host c st q =
     record {
       before = [];
@@ -69,11 +69,11 @@ found x r host c st q =
       finishes = q .finishes;
     }
 
-settled : (x : Line) (r : History) (host c : ℕ) (st : kindOf x ≡ Started host c) (s : some (itsFinish c) r ≡ true) → moved (found x r host c st (split c r s)) ≡ settle (Started host c) x r
+settled : (x : Exchange) (r : History) (host c : ℕ) (st : kindOf x ≡ Started host c) (s : some (itsFinish c) r ≡ true) → moved (found x r host c st (split c r s)) ≡ settle (Started host c) x r
 settled x r host c st s = rw (s, split c r s .from)
 
 -- moves under an entry in front, and moves after moves
-abbrev later : (x : Line) {k : History} → FinishedIn k → FinishedIn (x ∷ k)
+abbrev later : (x : Exchange) {k : History} → FinishedIn k → FinishedIn (x ∷ k)
 later x f =
     record {
       before = x ∷ f .before;
@@ -90,7 +90,7 @@ later x f =
       finishes = f .finishes;
     }
 
-by-cons : (x : Line) {h k : History} → ByMoves h k → ByMoves (x ∷ h) (x ∷ k)
+by-cons : (x : Exchange) {h k : History} → ByMoves h k → ByMoves (x ∷ h) (x ∷ k)
 by-cons x as-it-is = as-it-is
 by-cons x (one-more b f) = one-more (by-cons x b) (later x f)
 
@@ -98,7 +98,7 @@ by-both : {h k l : History} → ByMoves h k → ByMoves k l → ByMoves h l
 by-both a as-it-is = a
 by-both a (one-more b f) = one-more (by-both a b) f
 
-by-settle : (x : Line) (r : History) (k : Kind) → kindOf x ≡ k → ByMoves (x ∷ r) (settle k x r)
+by-settle : (x : Exchange) (r : History) (k : Kind) → kindOf x ≡ k → ByMoves (x ∷ r) (settle k x r)
 by-settle x r (Started host c) e = go (some (itsFinish c) r) refl
   where
     go : (b : Bool) → some (itsFinish c) r ≡ b → ByMoves (x ∷ r) (settle (Started host c) x r)
@@ -122,7 +122,7 @@ same-by-moves m (one-more {k = k} b f) w p r =
     same-trans machine i (move m k w (i .plays) (all-by-moves Remains b r) f)
 
 -- what stands between a Start and its Finish is no Start
-own-no-start : (c : ℕ) (k : Kind) → sendIn c k ≡ true → NoStart k
+own-no-start : (c : ℕ) (k : Kind) → isSendOf c k ≡ true → NoStart k
 own-no-start c (Started host context) e = absurd (false≢true e)
 own-no-start c (Sent host context offset piece) e = tt
 own-no-start c (Finished host context flag) e = tt
@@ -143,7 +143,7 @@ within-no-start c (x ∷ mid) a = (go (a .0), within-no-start c mid (a .1))
     go (inr q) = kind-no-start (kindOf x) (free-of x (q .1))
 
 -- what is no Start stays where it stands
-settle-stays : (x : Line) (r : History) (k : Kind) → NoStart k → settle k x r ≡ x ∷ r
+settle-stays : (x : Exchange) (r : History) (k : Kind) → NoStart k → settle k x r ≡ x ∷ r
 settle-stays x r (Started host c) n = absurd n
 settle-stays x r (Sent host context offset piece) n = refl
 settle-stays x r (Finished host context flag) n = refl
@@ -157,7 +157,7 @@ rearranged-stays (x ∷ mid) tail n =
     settle-stays x (rearranged (mid ++ tail)) (kindOf x) (n .0) ∙ ap (λ (z : History). x ∷ z) (rearranged-stays mid tail (n .1))
 
 -- up to the first Finish
-module _ (test : Line → Bool) (y : Line) (post : History) (yes-y : test y ≡ true) where
+module _ (test : Exchange → Bool) (y : Exchange) (post : History) (yes-y : test y ≡ true) where
   up-to : (mid : History) → All (λ x. test x ≡ false) mid → upTo test (mid ++ (y ∷ post)) ≡ mid
   up-to [] a = rw yes-y
   up-to (x ∷ mid) a = rw (a .0) (ap (λ (z : History). x ∷ z) (up-to mid (a .1)))
@@ -170,11 +170,11 @@ module _ (test : Line → Bool) (y : Line) (post : History) (yes-y : test y ≡ 
   some-here [] = rw yes-y
   some-here (x ∷ mid) = or-true (test x) (some test (mid ++ (y ∷ post))) (some-here mid)
 
-its-finish : (c host flag : ℕ) (y : Line) → kindOf y ≡ Finished host c flag → itsFinish c y ≡ true
-its-finish c host flag y e = ap (finishIn c) e ∙ eq-eqb c c refl
+its-finish : (c host flag : ℕ) (y : Exchange) → kindOf y ≡ Finished host c flag → itsFinish c y ≡ true
+its-finish c host flag y e = ap (isFinishOf c) e ∙ eq-eqb c c refl
 
 -- where the first part has no Start, a Start stands in the second
-past-part : (a b pre t : History) (x : Line) (host c : ℕ) → All (λ z. NoStart (kindOf z)) a → kindOf x ≡ Started host c → a ++ b ≡ pre ++ (x ∷ t) → (rest : History) × (b ≡ rest ++ (x ∷ t))
+past-part : (a b pre t : History) (x : Exchange) (host c : ℕ) → All (λ z. NoStart (kindOf z)) a → kindOf x ≡ Started host c → a ++ b ≡ pre ++ (x ∷ t) → (rest : History) × (b ≡ rest ++ (x ∷ t))
 past-part [] b pre t x host c n st e = (pre, e)
 past-part (z ∷ a) b [] t x host c n st e =
     let same : z ≡ x = cc in
@@ -184,7 +184,7 @@ past-part (z ∷ a) b (w ∷ pre) t x host c n st e =
     past-part a b pre t x host c (n .1) st tails
 
 -- what stands unbroken stands so behind an entry that settles
-unbroken-settle : (m : Module) (y : Line) (r : History) {h : History} (f : FinishedIn h) (k : Kind) → kindOf y ≡ k → Sound m → Plays machine m (y ∷ r) → All Remains (y ∷ r) → Unbroken r f
+unbroken-settle : (m : Module) (y : Exchange) (r : History) {h : History} (f : FinishedIn h) (k : Kind) → kindOf y ≡ k → Sound m → Plays machine m (y ∷ r) → All Remains (y ∷ r) → Unbroken r f
     → Unbroken (settle k y r) f
 unbroken-settle m y r f (Started host c) e w p l u = go (some (itsFinish c) r) refl
   where
@@ -230,7 +230,7 @@ unbroken-here m {h} f none-before w p k =
     c : ℕ
     c = f .context
 
-    x : Line
+    x : Exchange
     x = f .start
 
     mid : History

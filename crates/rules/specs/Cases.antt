@@ -9,7 +9,7 @@ use Rattle.rules.specs.Bytes.{le, zeros, same?}
 use Rattle.rules.specs.Numbers.{areaSize}
 use Rattle.rules.specs.With.{_with-transfer_, _with-phase_, _with-contexts_, _with-received_}
 use Rattle.rules.specs.Record.{_is_, fresh}
-use Rattle.rules.specs.Module.{Module, Result, Event, call, tick, step, after}
+use Rattle.rules.specs.Module.{Module, Result, Event, call, tick, outOf, after}
 use Rattle.rules.specs.Replay.{replayStart}
 use Rattle.rules.specs.declared.Phase.the-variants.{Receiving, Staged, Failed}
 
@@ -34,16 +34,13 @@ abbrev as-expected : Result → (expected : List ℕ) → Bool
 as-expected result expected =
     (result .reply .length =? length expected) && same? (result .answer) (expected ++ drop (length expected) buffer)
 
-abbrev next : Module → Event → Result
-next m event = step (m .device) (m .area) event
-
 abbrev ticked : ℕ → Module → Module
 ticked zero m = m
-ticked (suc ticks) m = ticked ticks (after (next m tick))
+ticked (suc ticks) m = ticked ticks (after (outOf m tick))
 
 abbrev holdsFrom : Module → List Deed → (Module → Bool) → Bool
 holdsFrom m [] ends = ends m
-holdsFrom m ((event answers expected) ∷ deeds) ends = as-expected (next m event) expected && holdsFrom (after (next m event)) deeds ends
+holdsFrom m ((event answers expected) ∷ deeds) ends = as-expected (outOf m event) expected && holdsFrom (after (outOf m event)) deeds ends
 holdsFrom m (passing ticks ∷ deeds) ends = holdsFrom (ticked ticks m) deeds ends
 
 abbrev pub holds : Case → Bool
@@ -79,7 +76,7 @@ set-passphrase new = ask 20 (zeros 32 ++ new)
 abbrev disable : List ℕ → Event
 disable current = ask 21 current
 
--- an answer that is a status alone
+-- an answer that is a status alone, its bytes written out, so that `statusBytes` is held to them
 abbrev status : ℕ → List ℕ
 status n = le 2 n ++ le 2 0
 

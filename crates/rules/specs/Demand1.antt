@@ -1,6 +1,7 @@
 -- Demand 1. "Any call, with any bytes and any device record, gets an answer and ends. A call we can't serve is refused by its number in document 01. A
 -- refused call leaves the device record and the staging area unchanged, but for one thing: a wrong passphrase adds one to the attempt count."
--- That every call ends is proved of the code, function by function. What it answers is said here, of the definitions.
+-- That every call ends is proved of the code, function by function. Which number a call gets, `Module.callChecks` says, row by row in the page's order; here
+-- it is said that this and nothing else decides, that no other number is given, and what a refusal leaves and writes.
 -- Assumes nothing.
 use mathlib.Core.Path.{_≡_}
 use mathlib.Core.Bool.{Bool, true, false, _&&_, _||_}
@@ -11,9 +12,9 @@ use Rattle.rules.specs.Tests.{if_then_else_, _≤?_, _<?_, _=?_}
 use Rattle.rules.specs.Bytes.{zeros}
 use Rattle.rules.specs.Numbers.{areaSize, answerRoom}
 use Rattle.rules.specs.Record.{fresh, possible}
-use Rattle.rules.specs.Refusals.{statusBytes, answerAfter, oneAttemptMore}
+use Rattle.rules.specs.Refusals.{verdict, statusBytes, answerAfter, oneAttemptMore}
 use Rattle.rules.specs.Table.{rowOf}
-use Rattle.rules.specs.Module.{Result, callResult, Event, call, tick, power, step}
+use Rattle.rules.specs.Module.{Result, callChecks, callResult, Event, call, tick, power, step}
 use Rattle.rules.specs.declared.Function.the-variants.{Mask}
 use Rattle.rules.specs.declared.Row.{Row}
 use Rattle.rules.specs.declared.Refusal.{Refusal}
@@ -36,7 +37,8 @@ column status n =
     else if status =? 8 then 8
     else n
 
--- A refused call is refused by its number in document 01, and writes that number's bytes. It leaves the record and the area unchanged, but for one thing.
+-- A refused call writes its number's bytes. It leaves the record and the area unchanged, but for one thing: said again, as in the demand's words, to hold
+-- `recordLeft` to it.
 abbrev pub RefusedBy : Refusal → Device → (area : List ℕ) (n : ℕ) (answer : List ℕ) → Result → Type 0
 RefusedBy (R number) d area n answer result =
     (result .device ≡ d) × (result .area ≡ area) × (result .answer ≡ answer) × (result .reply .length ≡ 0)
@@ -57,6 +59,7 @@ pub record Answered (row : Row) (answer : List ℕ) (result : Result) : Type 0 w
 
 -- Demand 1 of a call
 pub record OfCall (d : Device) (area : List ℕ) (revision index : ℕ) (request answer : List ℕ) : Type 0 where
+  pub judged : callResult d area revision index request answer .reply .verdict ≡ verdict (callChecks d area revision index request answer)
   pub numbers : (refusal : Refusal) → callResult d area revision index request answer .reply .verdict ≡ Refused refusal → numbered refusal ≡ true
   pub leaves : (refusal : Refusal) → callResult d area revision index request answer .reply .verdict ≡ Refused refusal
       → RefusedBy refusal d area (rowOf index .answer) answer (callResult d area revision index request answer)

@@ -1,4 +1,5 @@
--- Vocabulary: machines and their histories, that is, the events that came, each with the answer that it got, in their order. Knows no module.
+-- Vocabulary: machines and their histories, that is, the events that came, each with the answer that it got, in their order. Knows no module; the
+-- module's own `History` is in Transfers.antt.
 -- Assumes nothing.
 use mathlib.Core.Path.{_≡_}
 use mathlib.Core.Bool.{Bool, true, false, not, _||_}
@@ -10,29 +11,29 @@ pub record Machine (S E A : Type 0) : Type 0 where
   pub answer : S → E → A
   pub next : S → E → S
 
--- an entry of a history: an event, and the answer that it got
-pub record Exchange (E A : Type 0) : Type 0 where
+-- an exchange: an event, and the answer that it got
+pub record ExchangeOf (E A : Type 0) : Type 0 where
   pub event : E
   pub got : A
 
 module _ {S E A : Type 0} (M : Machine S E A) where
   -- the history that these events make, from the state s
-  abbrev pub historyOf : S → List E → List (Exchange E A)
+  abbrev pub historyOf : S → List E → List (ExchangeOf E A)
   historyOf s [] = []
   historyOf s (event ∷ events) = record { event = event; got = M .answer s event } ∷ historyOf (M .next s event) events
 
   -- from the state s, every event of the history is answered just as the history says
-  abbrev pub Plays : S → List (Exchange E A) → Type 0
+  abbrev pub Plays : S → List (ExchangeOf E A) → Type 0
   Plays s [] = Unit {0}
   Plays s (x ∷ h) = (M .answer s (x .event) ≡ x .got) × Plays (M .next s (x .event)) h
 
   -- the end to which the history comes, from the state s
-  abbrev pub end : S → List (Exchange E A) → S
+  abbrev pub end : S → List (ExchangeOf E A) → S
   end s [] = s
   end s (x ∷ h) = end (M .next s (x .event)) h
 
   -- "no answer or end changes": from the state s every event of k is answered just as k says, and k comes to the same end as h
-  pub record Same (s : S) (h k : List (Exchange E A)) : Type 0 where
+  pub record Same (s : S) (h k : List (ExchangeOf E A)) : Type 0 where
     pub plays : Plays s k
     pub ends : end s k ≡ end s h
 

@@ -4,8 +4,12 @@
 -- How to read them. `abbrev` and `unfoldable` both begin a definition; the line below its name and type is what it says. `f x y` is f of x and y; `x .f`
 -- is the field f of x; `p .0` and `p .1` are the two halves of a pair; `λ m. ..` is "given m, ..". ℕ is the numbers 0, 1, 2 and so on, of any size. A
 -- list is `[]`, empty, or `a ∷ b`, a before the list b; `++` joins two lists; `take n` and `drop n` are a list's first n and all after them. `=?`, `<?`
--- and `≤?` compare two numbers and come out true or false; `&&` is and, `||` is or. A statement: `≡` is "equals", `×` and, `⊎` or, `→` "if .., then ..",
--- `↔` "exactly when", `⊥` never, `Unit` always.
+-- and `≤?` compare two numbers and come out true or false; `&&` is and, `||` is or. `length s` is how many s has; `replicate n a` is a, n times; `zero` and
+-- `suc n` are 0 and n + 1; `n - m` is 0 where m is the greater; `/` and `%` divide, without and for the remainder; `^` is a power.
+-- In the line of a type `A → B → C` takes an A and a B and gives a C; `(n : A)` names what is taken, and in braces, `{h : A}`, it is left unwritten where
+-- it is used; `A × B` is a pair of both. `data` lists the forms that a thing may have; `record` the fields that it has.
+-- A statement: `≡` is "equals", `≤` and `<` as usual, `×` and, `⊎` or, `→` "if .., then ..", `↔` "exactly when", `⊥` never, `Unit` always; `(x : A) → ..`
+-- is "for every x". A `record` of statements holds where every one of its lines does.
 -- "Assumes nothing" says that a file rests on no unproved assumption.
 pub mod Tests
 pub mod Bytes
@@ -30,4 +34,4 @@ pub mod History
 pub mod Transfers
 pub mod Sends
 pub mod Moves
-pub mod Demand
+pub mod Demand3

@@ -5,7 +5,7 @@ use Prim.Native.Nat.{ℕ}
 use mathlib.Core.List.{List, [], _∷_, _++_}
 use Rattle.rules.specs.Bytes.{le}
 use Rattle.rules.specs.With.{_with-transfer_, _with-thresholds_, _with-security_}
-use Rattle.rules.specs.Refusals.{Check, verdict, R1Check, eventChecks, statusBytes, statusLength, statusAnswer, answerAfter, left}
+use Rattle.rules.specs.Refusals.{Check, verdict, R1Check, eventChecks, statusBytes, statusLength, statusAnswer, answerAfter, recordLeft}
 use Rattle.rules.specs.Table.{rowOf, servedCheck, lengthCheck, mask}
 use Rattle.rules.specs.Thresholds.{ThresholdCall, GetThreshold, setThresholdOf, thresholdChecks, thresholdAnswer, thresholdChange}
 use Rattle.rules.specs.Transfer.{TransferCall, GetFwInfo, Start, sendOf, finishOf, queryOf, transferChecks, transferAnswer, transferChange, transferArea, tickChange, transferPower}
@@ -42,37 +42,41 @@ callOf Function′.Unlock revision request = OnSecurity (Unlock request)
 callOf Function′.Freeze revision request = OnSecurity Freeze
 callOf Function′.Unserved revision request = OnNothing
 
+-- the call that a request is, by the table's function of its index
+abbrev pub callIn : (revision index : ℕ) (request : List ℕ) → Call
+callIn revision index request = callOf (rowOf index .function) revision request
+
 -- each function's checks
 abbrev pub checks : Device → Call → List Check
 checks d (OnMask revision) = []
-checks d (OnThresholds call) = thresholdChecks call
-checks d (OnTransfer call) = transferChecks (d .transfer) call
-checks d (OnSecurity call) = securityChecks (d .security) call
+checks d (OnThresholds asked) = thresholdChecks asked
+checks d (OnTransfer asked) = transferChecks (d .transfer) asked
+checks d (OnSecurity asked) = securityChecks (d .security) asked
 checks d OnNothing = []
 
 -- the bytes of an accepted call's answer: "a 2-byte status and a 2-byte extended number .., but for function 0". An index that the table lacks is never
 -- accepted, so that its line is never used.
 abbrev pub accepted : Device → Call → List ℕ
 accepted d (OnMask revision) = le 4 (mask revision)
-accepted d (OnThresholds call) = statusBytes 0 0 ++ thresholdAnswer (d .thresholds) call
-accepted d (OnTransfer call) = statusBytes 0 0 ++ transferAnswer (d .transfer) call
-accepted d (OnSecurity call) = statusBytes 0 0 ++ securityAnswer (d .security) call
+accepted d (OnThresholds asked) = statusBytes 0 0 ++ thresholdAnswer (d .thresholds) asked
+accepted d (OnTransfer asked) = statusBytes 0 0 ++ transferAnswer (d .transfer) asked
+accepted d (OnSecurity asked) = statusBytes 0 0 ++ securityAnswer (d .security) asked
 accepted d OnNothing = statusBytes 0 0
 
 -- the record after an accepted call
 abbrev pub change : Device → Call → Device
 change d (OnMask revision) = d
-change d (OnThresholds call) = d with-thresholds (thresholdChange (d .thresholds) call)
-change d (OnTransfer call) = d with-transfer (transferChange (d .transfer) call)
-change d (OnSecurity call) = d with-security (securityChange (d .security) call)
+change d (OnThresholds asked) = d with-thresholds (thresholdChange (d .thresholds) asked)
+change d (OnTransfer asked) = d with-transfer (transferChange (d .transfer) asked)
+change d (OnSecurity asked) = d with-security (securityChange (d .security) asked)
 change d OnNothing = d
 
 -- the area after an accepted call
 abbrev pub changeArea : Call → (area : List ℕ) → List ℕ
 changeArea (OnMask revision) area = area
-changeArea (OnThresholds call) area = area
-changeArea (OnTransfer call) area = transferArea call area
-changeArea (OnSecurity call) area = area
+changeArea (OnThresholds asked) area = area
+changeArea (OnTransfer asked) area = transferArea asked area
+changeArea (OnSecurity asked) area = area
 changeArea OnNothing area = area
 
 -- a module: its device record and its staging area
@@ -95,26 +99,26 @@ gateChecks d area revision index request answer =
 -- "then each function's checks as listed."
 abbrev pub callChecks : Device → (area : List ℕ) (revision index : ℕ) (request answer : List ℕ) → List Check
 callChecks d area revision index request answer =
-    gateChecks d area revision index request answer ++ checks d (callOf (rowOf index .function) revision request)
+    gateChecks d area revision index request answer ++ checks d (callIn revision index request)
 
 abbrev pub reply : Verdict → ℕ → Reply
 reply v n = record { verdict = v; length = n }
 
 -- What a verdict on a call comes to, for a function whose answer has n bytes. "R numbers write nothing."
 abbrev pub outcome : Verdict → Device → (area : List ℕ) → Call → (n : ℕ) (answer : List ℕ) → Result
-outcome Accepted d area call n answer =
+outcome Accepted d area asked n answer =
     record {
       reply = reply Accepted n;
-      device = change d call;
-      area = changeArea call area;
-      answer = answerAfter (accepted d call) answer;
+      device = change d asked;
+      area = changeArea asked area;
+      answer = answerAfter (accepted d asked) answer;
     }
-outcome (Refused (R number)) d area call n answer =
+outcome (Refused (R number)) d area asked n answer =
     record { reply = reply (Refused (R number)) 0; device = d; area = area; answer = answer }
-outcome (Refused (Status status ext)) d area call n answer =
+outcome (Refused (Status status ext)) d area asked n answer =
     record {
       reply = reply (Refused (Status status ext)) (statusLength status n);
-      device = left status d;
+      device = recordLeft status d;
       area = area;
       answer = answerAfter (statusAnswer status ext n) answer;
     }
@@ -122,7 +126,7 @@ outcome (Refused (Status status ext)) d area call n answer =
 -- A call: any record, any area, any revision and function index, any request, any answer buffer.
 unfoldable pub callResult : Device → (area : List ℕ) (revision index : ℕ) (request answer : List ℕ) → Result
 callResult d area revision index request answer =
-    outcome (verdict (callChecks d area revision index request answer)) d area (callOf (rowOf index .function) revision request) (rowOf index .answer) answer
+    outcome (verdict (callChecks d area revision index request answer)) d area (callIn revision index request) (rowOf index .answer) answer
 
 -- what a verdict on a tick or a power cycle comes to; no buffer is lent, so that the answer is the empty list
 abbrev pub happened : Verdict → (changed was : Device) (area : List ℕ) → Result
@@ -151,6 +155,10 @@ abbrev pub step : Device → (area : List ℕ) → Event → Result
 step d area (call host revision index request answer) = callResult d area revision index request answer
 step d area tick = tickResult d area
 step d area power = powerResult d area
+
+-- what comes out of an event on a module
+abbrev pub outOf : Module → Event → Result
+outOf m event = step (m .device) (m .area) event
 
 -- the module after an event
 abbrev pub after : Result → Module

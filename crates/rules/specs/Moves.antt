@@ -6,11 +6,11 @@ use mathlib.Core.Bool.{Bool, false}
 use mathlib.Core.List.{[], _∷_}
 use Rattle.rules.specs.Tests.{if_then_else_, _=?_}
 use Rattle.rules.specs.History.{some, upTo, onFrom, _and-then_}
-use Rattle.rules.specs.Transfers.{Line, History, Kind, Started, Sent, Finished, Ticked, Powered, Other, kindOf}
+use Rattle.rules.specs.Transfers.{Exchange, History, Kind, Started, Sent, Finished, Ticked, Powered, Other, kindOf}
 use Rattle.rules.specs.Sends.{ownSends, others, FinishedIn}
 
 -- a Start behind the others of what stood between; after it the transfer's own Sends, and what follows
-abbrev pub othersFirst : (context : ℕ) (start : Line) (between rest : History) → History
+abbrev pub othersFirst : (context : ℕ) (start : Exchange) (between rest : History) → History
 othersFirst context start between rest = others context between and-then (start ∷ (ownSends context between and-then rest))
 
 -- the history with one move made
@@ -23,20 +23,20 @@ pub data ByMoves (h : History) : History → Type 0 where
   one-more : {k : History} → ByMoves h k → (f : FinishedIn k) → ByMoves h (moved f)
 
 -- the Finish of the transfer with this context
-abbrev pub finishIn : (context : ℕ) → Kind → Bool
-finishIn context (Started host c) = false
-finishIn context (Sent host c offset piece) = false
-finishIn context (Finished host c flag) = c =? context
-finishIn context Ticked = false
-finishIn context Powered = false
-finishIn context Other = false
+abbrev pub isFinishOf : (context : ℕ) → Kind → Bool
+isFinishOf context (Started host c) = false
+isFinishOf context (Sent host c offset piece) = false
+isFinishOf context (Finished host c flag) = c =? context
+isFinishOf context Ticked = false
+isFinishOf context Powered = false
+isFinishOf context Other = false
 
--- whether an entry is that Finish
-abbrev pub itsFinish : (context : ℕ) → Line → Bool
-itsFinish context x = finishIn context (kindOf x)
+-- whether an exchange is that Finish
+abbrev pub itsFinish : (context : ℕ) → Exchange → Bool
+itsFinish context x = isFinishOf context (kindOf x)
 
--- A Start that its Finish follows goes behind the others of what stands before that Finish. Every other entry stays.
-abbrev pub settle : Kind → Line → History → History
+-- A Start that its Finish follows goes behind the others of what stands before that Finish. Every other exchange stays.
+abbrev pub settle : Kind → Exchange → History → History
 settle (Started host context) x h =
     if some (itsFinish context) h then othersFirst context x (upTo (itsFinish context) h) (onFrom (itsFinish context) h)
     else x ∷ h

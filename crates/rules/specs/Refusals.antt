@@ -10,7 +10,7 @@ use Rattle.rules.specs.Numbers.{areaSize, answerRoom}
 use Rattle.rules.specs.With.{_with-attempts_, _with-security_}
 use Rattle.rules.specs.Record.{possible}
 use Rattle.rules.specs.declared.Refusal.{Refusal}
-use Rattle.rules.specs.declared.Refusal.the-variants.{R, Status}
+use Rattle.rules.specs.declared.Refusal.the-variants.{R}
 use Rattle.rules.specs.declared.Verdict.{Verdict}
 use Rattle.rules.specs.declared.Verdict.the-variants.{Accepted, Refused}
 use Rattle.rules.specs.declared.Device.{Device}
@@ -37,7 +37,7 @@ R2Check area = not (length area =? areaSize) gives R 2
 abbrev pub R3Check : Device → Check
 R3Check d = not (possible d) gives R 3
 
--- "Ticks and power cycles can give R2 and R3 only."
+-- Every event makes these two checks. "Ticks and power cycles can give R2 and R3 only."
 abbrev pub eventChecks : Device → List ℕ → List Check
 eventChecks d area = R2Check area ∷ R3Check d ∷ []
 
@@ -67,5 +67,6 @@ answerAfter bytes answer = splice 0 bytes answer
 abbrev pub oneAttemptMore : Device → Device
 oneAttemptMore d = d with-security (d .security with-attempts (d .security .attempts + 1))
 
-abbrev pub left : (status : ℕ) → Device → Device
-left status d = if status =? 11 then oneAttemptMore d else d
+-- the record that a status leaves
+abbrev pub recordLeft : (status : ℕ) → Device → Device
+recordLeft status d = if status =? 11 then oneAttemptMore d else d

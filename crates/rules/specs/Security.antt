@@ -28,8 +28,8 @@ abbrev pub securityState : Security → List ℕ
 securityState s = zeros 4 ++ le 1 (stateByte s) ++ zeros 3
 
 -- "For 20 to 23, frozen or attempts at 10 gives 10 first." "The tenth wrong one still answers 11."
-abbrev pub frozenCheck : Security → Check
-frozenCheck s = s .frozen || s .attempts =? attemptLimit gives Status 10 0
+abbrev pub frozenOrLimitCheck : Security → Check
+frozenOrLimitCheck s = s .frozen || s .attempts =? attemptLimit gives Status 10 0
 
 -- "unequal 11"
 abbrev pub wrong : Security → (current : List ℕ) → Bool
@@ -42,7 +42,7 @@ setPassphraseOf request = SetPassphrase (take 32 request) (drop 32 request)
 -- The checks of a call that carries a passphrase: the frozen state first, then what the call is forbidden by, then the passphrase.
 abbrev pub passphraseChecks : Security → (forbidden unequal : Bool) → List Check
 passphraseChecks s forbidden unequal =
-    frozenCheck s ∷ (forbidden gives Status 10 0) ∷ (unequal gives Status 11 0) ∷ []
+    frozenOrLimitCheck s ∷ (forbidden gives Status 10 0) ∷ (unequal gives Status 11 0) ∷ []
 
 -- "Set: locked gives 10; enabled and current passphrase unequal gives 11;" "(not enabled: the current field is ignored)"
 abbrev pub setPassphraseChecks : Security → (current : List ℕ) → List Check
@@ -78,7 +78,7 @@ securityChecks s GetSecurityState = []
 securityChecks s (SetPassphrase current new) = setPassphraseChecks s current
 securityChecks s (Disable current) = disableChecks s current
 securityChecks s (Unlock current) = unlockChecks s current
-securityChecks s Freeze = frozenCheck s ∷ []
+securityChecks s Freeze = frozenOrLimitCheck s ∷ []
 
 abbrev pub securityAnswer : Security → SecurityCall → List ℕ
 securityAnswer s GetSecurityState = securityState s

@@ -6,20 +6,20 @@ use mathlib.Core.Bool.{Bool, false}
 use mathlib.Core.List.{List, [], _∷_, _++_}
 use Rattle.rules.specs.Tests.{_=?_}
 use Rattle.rules.specs.History.{only, except, _and-then_}
-use Rattle.rules.specs.Transfers.{Line, History, Kind, Started, Sent, Finished, Ticked, Powered, Other, kindOf}
+use Rattle.rules.specs.Transfers.{Exchange, History, Kind, Started, Sent, Finished, Ticked, Powered, Other, kindOf}
 
 -- A transfer goes by its context, which is never given again. Its own Sends are those with its context.
-abbrev pub sendIn : (context : ℕ) → Kind → Bool
-sendIn context (Started host c) = false
-sendIn context (Sent host c offset piece) = c =? context
-sendIn context (Finished host c flag) = false
-sendIn context Ticked = false
-sendIn context Powered = false
-sendIn context Other = false
+abbrev pub isSendOf : (context : ℕ) → Kind → Bool
+isSendOf context (Started host c) = false
+isSendOf context (Sent host c offset piece) = c =? context
+isSendOf context (Finished host c flag) = false
+isSendOf context Ticked = false
+isSendOf context Powered = false
+isSendOf context Other = false
 
--- whether an entry is one of them
-abbrev pub ownSend : (context : ℕ) → Line → Bool
-ownSend context x = sendIn context (kindOf x)
+-- whether an exchange is one of them
+abbrev pub ownSend : (context : ℕ) → Exchange → Bool
+ownSend context x = isSendOf context (kindOf x)
 
 -- "its own Sends" of a history, in their own order
 abbrev pub ownSends : (context : ℕ) → History → History
@@ -55,9 +55,9 @@ SentBy host Other = ⊥
 -- A transfer of the history with an accepted Finish, abort or not: its Start, what stands between, its Finish.
 pub record FinishedIn (h : History) : Type 0 where
   pub before : History
-  pub start : Line
+  pub start : Exchange
   pub between : History
-  pub finish : Line
+  pub finish : Exchange
   pub since : History
   pub starter : ℕ
   pub finisher : ℕ

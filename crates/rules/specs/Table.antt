@@ -5,7 +5,7 @@ use mathlib.Core.Bool.{Bool, true, false, not, _&&_}
 use mathlib.Core.List.{List, [], _∷_}
 use lib.ListN.{length}
 use Rattle.rules.specs.Tests.{if_then_else_, _≤?_, _=?_}
-use Rattle.rules.specs.Bytes.{le, bit}
+use Rattle.rules.specs.Bytes.{bit}
 use Rattle.rules.specs.Refusals.{Check, _gives_}
 use Rattle.rules.specs.declared.Refusal.the-variants.{Status}
 use Rattle.rules.specs.declared.Row.{Row}
@@ -55,7 +55,7 @@ lookUp index (line ∷ lines) = if index =? line .0 then line .1 else lookUp ind
 unfoldable pub rowOf : (index : ℕ) → Row
 rowOf index = lookUp index table
 
--- a revision serves what it or an earlier one began to serve
+-- revisions 1 and 2 serve what they or an earlier one began to serve; no later revision serves anything
 abbrev pub served? : (revision : ℕ) → Row → Bool
 served? revision r = r .since ≤? revision && revision ≤? 2
 

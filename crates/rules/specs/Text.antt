@@ -1,7 +1,7 @@
 -- Vocabulary: text as bytes.
 -- Assumes nothing.
 use Prim.Native.Nat.{ℕ, zero, suc, _+_, _/_, _%_}
-use Prim.Native.Char.{Char, code}
+use Prim.Native.Char.{code}
 use Prim.Native.String.{String, [] as end, _∷_ as _then_}
 use mathlib.Core.List.{List, [], _∷_, _++_}
 use Rattle.rules.specs.Tests.{_<?_, if_then_else_}

@@ -1,4 +1,4 @@
--- Demand 3's words: the module's histories, what an entry is to the transfers, which transfer is open, and whose turn it is.
+-- Demand 3's words: the module's histories, what an exchange is to the transfers, which transfer is open, and whose turn it is.
 -- Assumes nothing.
 use Prim.Native.Nat.{ℕ}
 use mathlib.Core.Path.{_≡_}
@@ -7,20 +7,15 @@ use lib.ListN.{length}
 use Rattle.rules.specs.Tests.{if_then_else_}
 use Rattle.rules.specs.Bytes.{numberAt}
 use Rattle.rules.specs.Refusals.{refused?}
-use Rattle.rules.specs.Table.{rowOf}
 use Rattle.rules.specs.Transfer.{GetFwInfo, Start, Send, Finish, Query}
-use Rattle.rules.specs.Module.{Call, OnMask, OnThresholds, OnTransfer, OnSecurity, OnNothing, callOf, Module, Result, Event, call, tick, power, step, after}
-use Rattle.rules.specs.History.{Machine, Exchange}
+use Rattle.rules.specs.Module.{Call, OnMask, OnThresholds, OnTransfer, OnSecurity, OnNothing, callIn, Module, Event, call, tick, power, outOf, after}
+use Rattle.rules.specs.History.{Machine, ExchangeOf}
 use Rattle.rules.specs.declared.Reply.{Reply}
 
 -- What an event is answered: the reply, and the whole answer buffer afterwards.
 pub record Answer : Type 0 where
   pub reply : Reply
   pub buffer : List ℕ
-
--- what comes out of an event
-abbrev pub outOf : Module → Event → Result
-outOf m event = step (m .device) (m .area) event
 
 -- "carry record and area on from call to call": the module as a machine
 abbrev pub machine : Machine Module Event Answer
@@ -30,15 +25,15 @@ machine =
       next = λ m event. after (outOf m event);
     }
 
--- an event with what it was answered
-abbrev pub Line : Type 0
-Line = Exchange Event Answer
+-- an exchange with the module
+abbrev pub Exchange : Type 0
+Exchange = ExchangeOf Event Answer
 
--- such entries, in the order in which they came
+-- exchanges, in the order in which they came
 abbrev pub History : Type 0
-History = List Line
+History = List Exchange
 
--- What an entry is to the transfers: an accepted Start by a host, answered a context; an accepted Send or Finish by a host with a context; a tick; a power
+-- What an exchange is to the transfers: an accepted Start by a host, answered a context; an accepted Send or Finish by a host with a context; a tick; a power
 -- cycle; or none of these, as a refused call is.
 pub data Kind : Type 0 where
   Started : (host context : ℕ) → Kind
@@ -64,18 +59,14 @@ callKind host (OnTransfer (Query context)) got = Other
 callKind host (OnSecurity asked) got = Other
 callKind host OnNothing got = Other
 
--- the call that a request is, by the table's function of its index
-abbrev pub callIn : (revision index : ℕ) (request : List ℕ) → Call
-callIn revision index request = callOf (rowOf index .function) revision request
-
 -- an event that was answered so
 abbrev pub eventKind : Event → Answer → Kind
 eventKind (call host revision index request answer) got = callKind host (callIn revision index request) got
 eventKind tick got = Ticked
 eventKind power got = Powered
 
--- an entry
-abbrev pub kindOf : Line → Kind
+-- an exchange
+abbrev pub kindOf : Exchange → Kind
 kindOf x = eventKind (x .event) (x .got)
 
 -- Which transfer is open: none, or that of a host with a context, whose pieces so far, joined, are these bytes.
@@ -84,9 +75,9 @@ pub data Open : Type 0 where
   by : (host context : ℕ) (bytes : List ℕ) → Open
 
 -- the bytes that the open transfer has sent so far
-abbrev pub sentIn : Open → List ℕ
-sentIn none = []
-sentIn (by host context bytes) = bytes
+abbrev pub bytesSoFar : Open → List ℕ
+bytesSoFar none = []
+bytesSoFar (by host context bytes) = bytes
 
 -- the same transfer, with one piece more
 abbrev pub withPiece : Open → (piece : List ℕ) → Open
@@ -102,11 +93,6 @@ opens now Ticked = now
 opens now Powered = none
 opens now Other = now
 
--- which transfer is open after a history
-abbrev pub openAfter : Open → History → Open
-openAfter now [] = now
-openAfter now (x ∷ h) = openAfter (opens now (kindOf x)) h
-
 -- of the open transfer: by the host that started it, with its context
 abbrev pub OfOpen : Open → (host context : ℕ) → Type 0
 OfOpen none host context = ⊥
@@ -115,13 +101,32 @@ OfOpen (by starter given bytes) host context = (host ≡ starter) × (context �
 -- A Start comes where no transfer is open. A Send is of the open transfer, and goes on where the last one stopped. A Finish is of the open transfer.
 abbrev pub InTurn : Open → Kind → Type 0
 InTurn now (Started host context) = now ≡ none
-InTurn now (Sent host context offset piece) = OfOpen now host context × (offset ≡ length (sentIn now))
+InTurn now (Sent host context offset piece) = OfOpen now host context × (offset ≡ length (bytesSoFar now))
 InTurn now (Finished host context flag) = OfOpen now host context
 InTurn now Ticked = Unit {0}
 InTurn now Powered = Unit {0}
 InTurn now Other = Unit {0}
 
--- every entry comes in its turn
+-- every exchange comes in its turn
 abbrev pub AllInTurn : Open → History → Type 0
 AllInTurn now [] = Unit {0}
 AllInTurn now (x ∷ h) = InTurn now (kindOf x) × AllInTurn (opens now (kindOf x)) h
+
+-- the context of the open transfer
+abbrev pub InOpen : Open → (context : ℕ) → Type 0
+InOpen none context = ⊥
+InOpen (by host given bytes) context = context ≡ given
+
+-- in its turn, whoever calls
+abbrev pub InOrder : Open → Kind → Type 0
+InOrder now (Started host context) = now ≡ none
+InOrder now (Sent host context offset piece) = InOpen now context × (offset ≡ length (bytesSoFar now))
+InOrder now (Finished host context flag) = InOpen now context
+InOrder now Ticked = Unit {0}
+InOrder now Powered = Unit {0}
+InOrder now Other = Unit {0}
+
+-- every exchange comes in its turn, whoever calls
+abbrev pub AllInOrder : Open → History → Type 0
+AllInOrder now [] = Unit {0}
+AllInOrder now (x ∷ h) = InOrder now (kindOf x) × AllInOrder (opens now (kindOf x)) h

@@ -3,14 +3,14 @@ ghost use mathlib.Core.Path.{_≡_};
 ghost use mathlib.Core.List.{[], _∷_};
 ghost use Rattle.rules.specs.Bytes.{same?};
 ghost use Rattle.rules.specs.Refusals.{_gives_, verdict};
-ghost use Rattle.rules.specs.Security.{frozenCheck, setPassphraseChecks, disableChecks, unlockChecks};
+ghost use Rattle.rules.specs.Security.{frozenOrLimitCheck, setPassphraseChecks, disableChecks, unlockChecks};
 use rules::Refusal;
 use rules::Security;
 use rules::Verdict;
 
 // The three checks of a call that carries a passphrase. Whether it is wrong is looked at last, so that a frozen module counts no attempts.
 fn judge_passphrase(s: Security, forbidden: bool, wrong: bool) -> Verdict
-    ensures { λ r. ⌜ r ≡ verdict (frozenCheck s ∷ (forbidden gives Refusal.Status 10 0) ∷ (wrong gives Refusal.Status 11 0) ∷ []) ⌝ }
+    ensures { λ r. ⌜ r ≡ verdict (frozenOrLimitCheck s ∷ (forbidden gives Refusal.Status 10 0) ∷ (wrong gives Refusal.Status 11 0) ∷ []) ⌝ }
 {
     let frozen = s.frozen | (s.attempts == 10);
     if frozen {
@@ -57,7 +57,7 @@ pub fn judge_unlock(s: Security, given: &[u8]) -> Verdict
 }
 
 pub fn judge_freeze(s: Security) -> Verdict
-    ensures { λ r. ⌜ r ≡ verdict (frozenCheck s ∷ []) ⌝ }
+    ensures { λ r. ⌜ r ≡ verdict (frozenOrLimitCheck s ∷ []) ⌝ }
 {
     let already = s.frozen | (s.attempts == 10);
     if already {

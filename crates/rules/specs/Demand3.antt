@@ -11,9 +11,9 @@ use Rattle.rules.specs.Numbers.{areaSize, lastContext}
 use Rattle.rules.specs.Record.{_is_, fresh, possible}
 use Rattle.rules.specs.Image.{imageOf}
 use Rattle.rules.specs.Transfer.{GetFwInfo, Start, Send, Finish, Query, receivedBytes}
-use Rattle.rules.specs.Module.{Call, OnMask, OnThresholds, OnTransfer, OnSecurity, OnNothing, Module, Event, call, tick, power}
+use Rattle.rules.specs.Module.{Call, OnMask, OnThresholds, OnTransfer, OnSecurity, OnNothing, Module, Event, call, tick, power, outOf, callIn}
 use Rattle.rules.specs.History.{historyOf, end, Same, only, All, _and-then_}
-use Rattle.rules.specs.Transfers.{outOf, machine, Line, History, Started, callIn, kindOf, none, AllInTurn}
+use Rattle.rules.specs.Transfers.{machine, Exchange, History, Started, kindOf, none, AllInTurn, AllInOrder}
 use Rattle.rules.specs.Sends.{ownSends, pieces, SentBy, FinishedIn, ticksIn, powerCycles}
 use Rattle.rules.specs.Moves.{moved, ByMoves, rearranged, Unbroken}
 use Rattle.rules.specs.declared.Refusal.the-variants.{R, Status}
@@ -124,11 +124,11 @@ pub record Due (h : History) (version : ℕ) : Type 0 where
 abbrev pub StagedExactly : Module → History → Type 0
 StagedExactly m h = (event : Event) (version : ℕ) → Stages (end machine m h) event version ↔ ((event ≡ tick) × Due (struck h) version)
 
--- "An image is staged once": between an entry that stages and a later event that stages there is a power cycle. That one Finish never stages twice is in
+-- "An image is staged once": between an exchange that stages and a later event that stages there is a power cycle. That one Finish never stages twice is in
 -- `StagedExactly`: what stages is the eighth tick after it, before any power cycle.
 abbrev pub StagedOnce : Module → History → Type 0
 StagedOnce m h =
-    (before between : History) (x : Line) (event : Event) (first second : ℕ)
+    (before between : History) (x : Exchange) (event : Event) (first second : ℕ)
     → h ≡ before and-then x ∷ between
     → Stages (end machine m before) (x .event) first
     → Stages (end machine m h) event second
@@ -137,14 +137,14 @@ StagedOnce m h =
 -- "Numbers outlive power cycles and are never given again": of two Starts of a history the later is answered the higher number.
 abbrev pub NeverAgain : History → Type 0
 NeverAgain h =
-    (before between since : History) (x y : Line) (host other first second : ℕ)
+    (before between since : History) (x y : Exchange) (host other first second : ℕ)
     → h ≡ before and-then x ∷ between and-then y ∷ since
     → kindOf x ≡ Started host first
     → kindOf y ≡ Started other second
     → first < second
 
 -- Demand 3, for a module m and a history h from it.
-pub record Demand3 (m : Module) (h : History) : Type 0 where
+pub record Demand3Of (m : Module) (h : History) : Type 0 where
   pub strike-out : StrikeOut m h
   pub one-after-another : OneAfterAnother (struck h)
   pub own-pieces : (f : FinishedIn (struck h)) → OwnPieces m f
@@ -156,11 +156,18 @@ pub record Demand3 (m : Module) (h : History) : Type 0 where
 
 -- "Begin with a fresh module, .. and let hosts' calls, ticks and power cycles come in any order, each host using only context numbers that a Start answered
 -- to it."
-abbrev pub Demand : Type 0
-Demand =
+abbrev pub Demand3 : Type 0
+Demand3 =
     (area : List ℕ) → length area ≡ areaSize → (events : List Event)
     → Honest (historyOf machine (freshWith area) events)
-    → Demand3 (freshWith area) (historyOf machine (freshWith area) events)
+    → Demand3Of (freshWith area) (historyOf machine (freshWith area) events)
+
+-- The same, where only what remains need be honest: a refused call may carry any context.
+abbrev pub DemandOfWhatRemains : Type 0
+DemandOfWhatRemains =
+    (area : List ℕ) → length area ≡ areaSize → (events : List Event)
+    → Honest (struck (historyOf machine (freshWith area) events))
+    → Demand3Of (freshWith area) (historyOf machine (freshWith area) events)
 
 -- A module whose record is possible and has the declared width of contexts, with an area of the right size.
 pub record Sound (m : Module) : Type 0 where
@@ -181,6 +188,7 @@ DemandFromAnywhere = (m : Module) → Sound m → (events : List Event) → From
 
 -- What holds from a fresh module, whatever contexts the hosts use. Only "each from one host" is left: it alone needs honest hosts.
 pub record WithAnyHosts (m : Module) (h : History) : Type 0 where
+  pub one-after-another : AllInOrder none (struck h)
   pub received : (f : FinishedIn (struck h)) → Received m f
   pub staged-exactly : StagedExactly m h
 

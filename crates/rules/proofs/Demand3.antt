@@ -8,7 +8,7 @@ use Rattle.rules.specs.Numbers.{areaSize}
 use Rattle.rules.specs.Module.{Module, Event, tick}
 use Rattle.rules.specs.History.{historyOf, end, All}
 use Rattle.rules.specs.Transfers.{machine, History, none, AllInTurn}
-use Rattle.rules.specs.Demand.{freshWith, struck, StrikeOut, Stages, Due, StagedExactly, Demand, Sound, FromAnywhere, WithAnyHosts, DemandFromAnywhere, DemandWithAnyHosts}
+use Rattle.rules.specs.Demand3.{freshWith, struck, StrikeOut, Stages, Due, StagedExactly, Demand3, DemandOfWhatRemains, Sound, FromAnywhere, WithAnyHosts, DemandFromAnywhere, DemandWithAnyHosts}
 use Rattle.rules.proofs.Joining.{plays-log}
 use Rattle.rules.proofs.Struck.{strike-out}
 use Rattle.rules.proofs.Parts.{storeOf, inner}
@@ -17,6 +17,7 @@ use Rattle.rules.proofs.Gate.{Remains, Inward, inwards}
 use Rattle.rules.proofs.Moved.{move}
 use Rattle.rules.proofs.Unbroken.{all-moved}
 use Rattle.rules.proofs.Honest.{all-remains, honest-struck}
+use Rattle.rules.proofs.Order.{orders}
 use Rattle.rules.proofs.Turn.{turns, hosts-fresh}
 use Rattle.rules.proofs.Pieces.{received, own-pieces}
 use Rattle.rules.proofs.Stage.{Ripe, stages-ripe, ripe-stages, staged-once}
@@ -36,7 +37,7 @@ from-anywhere m w events =
 
 -- From a fresh module, and with hosts that use any context.
 pub with-any-hosts : DemandWithAnyHosts
-with-any-hosts area size events = record { received = λ f. received m r f w refl (st .plays) k; staged-exactly = staging }
+with-any-hosts area size events = record { one-after-another = orders none m r w refl (into .plays) k; received = λ f. received m r f w refl (st .plays) k; staged-exactly = staging }
   where
     m : Module
     m = freshWith area
@@ -76,9 +77,9 @@ with-any-hosts area size events = record { received = λ f. received m r f w ref
             (ripe-stages (end machine m h) version (sound-end m h w)
             (subst (λ (z : Module). Ripe (storeOf z) version) same-end (due-ripe m r version w refl (into .plays) k (g .1))))
 
--- Demand 3.
-pub demand-3 : Demand
-demand-3 area size events honest =
+-- From a fresh module, where what remains is honest.
+pub of-what-remains : DemandOfWhatRemains
+of-what-remains area size events honest =
     record {
       strike-out = anywhere .strike-out;
       one-after-another = in-turn;
@@ -112,4 +113,8 @@ demand-3 area size events honest =
     k = all-remains h
 
     in-turn : AllInTurn none r
-    in-turn = turns [] none m r w refl (hosts-fresh (storeOf m)) (honest-struck h honest) (inwards m r w (anywhere .strike-out .plays) k .plays) k
+    in-turn = turns [] none m r w refl (hosts-fresh (storeOf m)) honest (inwards m r w (anywhere .strike-out .plays) k .plays) k
+
+-- Demand 3.
+pub demand-3 : Demand3
+demand-3 area size events honest = of-what-remains area size events (honest-struck (historyOf machine (freshWith area) events) honest)
