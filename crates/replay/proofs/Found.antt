@@ -15,8 +15,9 @@ use Rattle.reader.specs.declared.Found.the-variants.{Record}
 use Rattle.reader.specs.declared.Stood.{Stood}
 use Rattle.reader.specs.Reader.{stoodAt}
 use Rattle.reader.proofs.Places.{at-record, found-record}
-use Rattle.replay.specs.declared.Played.{Played}
-use Rattle.replay.specs.Replayed.{Replayed, RecordReplayed, PlaceReplayed, foundLine, foundPlayed}
+use Rattle.play.specs.declared.Played.{Played}
+use Rattle.play.specs.Replayed.{Replayed, RecordReplayed}
+use Rattle.replay.specs.Places.{PlaceReplayed, foundLine, foundPlayed}
 
 module _ (log : List ℕ) (place : ℕ) where
   -- the part of the log that is lent is its record

@@ -1,5 +1,3 @@
-pub mod AnyBuffer
-pub mod Steps
 pub mod Found
 pub mod Turns
 pub mod Joined

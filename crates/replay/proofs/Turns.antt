@@ -8,8 +8,9 @@ use Rattle.rules.specs.Module.{Module}
 use Rattle.rules.specs.Log.{recordsIn, recordAt}
 use Rattle.rules.specs.Replay.{recordLine, recordPlayed, recordLines, moduleAfter}
 use Rattle.text.proofs.Writing.{and-then}
-use Rattle.replay.specs.declared.Played.{Played}
-use Rattle.replay.specs.Replayed.{Replayed, PlaceReplayed, moduleOf}
+use Rattle.play.specs.declared.Played.{Played}
+use Rattle.play.specs.Replayed.{Replayed, moduleOf}
+use Rattle.replay.specs.Places.{PlaceReplayed}
 use Rattle.replay.proofs.Found.{place-record}
 
 module _ (number : ℕ) (m : Module) (part : List ℕ) where

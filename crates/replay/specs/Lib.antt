@@ -1,3 +1,3 @@
-pub mod Replayed
+pub mod Places
 pub mod Parts
 pub mod Verdicts

@@ -5,7 +5,7 @@ ghost use mathlib.Core.Path.{_≡_};
 ghost use lib.ListN.{length};
 use files::Filled;
 use libc::STDIN_FILENO;
-use replay::Played;
+use play::Played;
 use rules::Device;
 
 fn show_heading(out: &mut [u8; 12288]) -> bool {

@@ -5,7 +5,7 @@ use native.Mathlib.Omega.{arith}
 use lib.ListN.{length}
 use borrow.Author.Needs.{needs}
 use Rattle.reader.specs.declared.Found.the-variants.{Record, Short, End}
-use Rattle.replay.specs.Replayed.{moduleOf}
+use Rattle.play.specs.Replayed.{moduleOf}
 use Rattle.replay.proofs.Found.{record-within, record-says, as-found, as-record, nothing-written}
 use Rattle.replay.proofs.play_at.Statement.{statement}
 use Rattle.replay.proofs.play_at.Tie as tie

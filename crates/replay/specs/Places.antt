@@ -1,38 +1,17 @@
--- What a part of a replay comes to: the text that was written, and the module after it.
+-- What a place of a log and a part of it come to in a replay: the lines that were written, and the module after them.
 -- Assumes nothing.
-use mathlib.Core.Path.{_≡_}
 use mathlib.Core.Bool.{true}
 use mathlib.Core.List.{List, []}
 use Prim.Native.Nat.{ℕ}
-use Rattle.rules.specs.Module.{Module, Result, after}
+use Rattle.rules.specs.Module.{Module}
 use Rattle.rules.specs.Log.{requestIn, recordsIn, recordAt}
-use Rattle.rules.specs.Replay.{callLine, entryLine, recordLine, recordPlayed, recordLines, moduleAfter, tailLine}
+use Rattle.rules.specs.Replay.{entryLine, recordLines, moduleAfter, tailLine}
 use Rattle.rules.specs.Replay as Replay
-use Rattle.rules.specs.declared.Device.{Device}
 use Rattle.reader.specs.declared.Found.{Found}
 use Rattle.reader.specs.declared.Found.the-variants.{Record, Short, End}
 use Rattle.reader.specs.Reader.{stoodAt}
-use Rattle.text.specs.Wrote.{Wrote}
-use Rattle.replay.specs.declared.Played.{Played}
-
--- a module of this record and this area
-abbrev pub moduleOf : Device → List ℕ → Module
-moduleOf d area = record { device = d; area = area }
-
--- The text was written over old at a place, and new came of it; the record that is answered and the area as it was left are the module.
-pub record Replayed (text : List ℕ) (m : Module) (old : List ℕ) (at : ℕ) (new area : List ℕ) (played : Played) : Type 0 where
-  pub wrote : Wrote old at text new (played .at)
-  pub module-is : moduleOf (played .device) area ≡ m
-
--- a call that came to this result was played, and its line was written
-abbrev pub CallReplayed : (number index : ℕ) → Result → (old : List ℕ) (at : ℕ) (new area : List ℕ) → Played → Type 0
-CallReplayed number index result old at new area played =
-    Replayed (callLine number index (result .reply)) (after result) old at new area played
-
--- one record of a log was played, and its line was written
-abbrev pub RecordReplayed : (number : ℕ) → Module → (bytes old : List ℕ) (at : ℕ) (new area : List ℕ) → Played → Type 0
-RecordReplayed number m bytes old at new area played =
-    Replayed (recordLine number m bytes) (recordPlayed m bytes) old at new area played
+use Rattle.play.specs.declared.Played.{Played}
+use Rattle.play.specs.Replayed.{Replayed}
 
 -- what the reader finds at a place of a log: a record is played and has its line, a short tail has its line, the end has none
 abbrev pub foundLine : (number : ℕ) → Module → Found → (bytes : List ℕ) → List ℕ

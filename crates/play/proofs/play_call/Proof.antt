@@ -1,8 +1,8 @@
--- `replay::play_call` meets its contract: the module's promise gives reply, record and area, whatever the answer buffer holds, and the line is the reply's.
+-- `play::play_call` meets its contract: the module's promise gives reply, record and area, whatever the answer buffer holds, and the line is the reply's.
 use borrow.Author.Needs.{needs}
-use Rattle.replay.proofs.Steps.{call-replayed}
-use Rattle.replay.proofs.play_call.Statement.{statement}
-use Rattle.replay.proofs.play_call.Tie as tie
+use Rattle.play.proofs.Steps.{call-replayed}
+use Rattle.play.proofs.play_call.Statement.{statement}
+use Rattle.play.proofs.play_call.Tie as tie
 
 played : tie.Need-returns
 played c =

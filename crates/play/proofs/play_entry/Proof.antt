@@ -1,12 +1,12 @@
--- `replay::play_entry` meets its contract: each arm plays the entry, which is what the record says.
+-- `play::play_entry` meets its contract: each arm plays the entry, which is what the record says.
 use mathlib.Core.Path.{refl}
 use native.Mathlib.Omega.{arith}
 use borrow.Author.Needs.{needs}
 use Rattle.rules.specs.declared.Entry.the-variants.{Tick, Power, Bad}
-use Rattle.replay.specs.Replayed.{moduleOf}
-use Rattle.replay.proofs.Steps.{as-entry, as-call, request-within}
-use Rattle.replay.proofs.play_entry.Statement.{statement}
-use Rattle.replay.proofs.play_entry.Tie as tie
+use Rattle.play.specs.Replayed.{moduleOf}
+use Rattle.play.proofs.Steps.{as-entry, as-call, request-within}
+use Rattle.play.proofs.play_entry.Statement.{statement}
+use Rattle.play.proofs.play_entry.Tie as tie
 
 within : tie.Need-part-play-call-end
 within c =

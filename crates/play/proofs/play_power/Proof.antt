@@ -1,9 +1,9 @@
--- `replay::play_power` meets its contract: the module's promise gives the record, and the line is written beside it.
+-- `play::play_power` meets its contract: the module's promise gives the record, and the line is written beside it.
 use native.Mathlib.Omega.{arith}
 use borrow.Author.Needs.{needs}
-use Rattle.replay.proofs.Steps.{event-replayed}
-use Rattle.replay.proofs.play_power.Statement.{statement}
-use Rattle.replay.proofs.play_power.Tie as tie
+use Rattle.play.proofs.Steps.{event-replayed}
+use Rattle.play.proofs.play_power.Statement.{statement}
+use Rattle.play.proofs.play_power.Tie as tie
 
 played : tie.Need-returns
 played c =

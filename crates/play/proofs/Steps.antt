@@ -17,9 +17,9 @@ use Rattle.text.specs.Wrote.{Wrote}
 use Rattle.text.proofs.Writing.{rewrote}
 use Rattle.module.specs.Promise.{Promised}
 use Rattle.module.specs.declared.Outcome.{Outcome}
-use Rattle.replay.specs.declared.Played.{Played}
-use Rattle.replay.specs.Replayed.{Replayed, CallReplayed, moduleOf}
-use Rattle.replay.proofs.AnyBuffer.{any-buffer}
+use Rattle.play.specs.declared.Played.{Played}
+use Rattle.play.specs.Replayed.{Replayed, CallReplayed, moduleOf}
+use Rattle.play.proofs.AnyBuffer.{any-buffer}
 
 abbrev playedAt : ℕ → Device → Played
 playedAt next d = record { at = next; device = d }

@@ -1,0 +1,2 @@
+pub mod AnyBuffer
+pub mod Steps
