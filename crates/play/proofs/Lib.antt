@@ -1,2 +1,3 @@
 pub mod AnyBuffer
 pub mod Steps
+pub mod NoR
