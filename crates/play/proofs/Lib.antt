@@ -1,3 +1,4 @@
 pub mod AnyBuffer
 pub mod Steps
 pub mod NoR
+pub mod Agree

@@ -108,3 +108,22 @@ pub fn play_entry(
         }
     }
 }
+
+// One record of a log is played on the module, and its line is written.
+pub fn play_record(
+    out: &mut [u8],
+    at: usize,
+    number: u64,
+    d: Device,
+    area: &mut [u8],
+    answer: &mut [u8],
+    bytes: &[u8],
+) -> Played
+    requires { ⌜ at + 96 ≤ length (now out) ⌝ }
+    requires { ⌜ length (now answer) ≡ 64 ⌝ }
+    ensures { λ r. ⌜ r .at ≤ at + 96 ⌝ }
+    ensures { λ r. ⌜ RecordReplayed number (moduleOf d (now (area .entry))) (now (bytes .entry)) (now (out .entry)) at (now (out .exit)) (now (area .exit)) r ⌝ }
+{
+    let entry = log::decode(bytes);
+    play_entry(out, at, number, d, area, answer, entry, bytes)
+}

@@ -3,4 +3,3 @@ pub mod Turns
 pub mod Joined
 pub mod TextOfLog
 pub mod NeverR
-pub mod Agree

@@ -3,30 +3,11 @@ ghost use mathlib.Core.Path.{_≡_};
 ghost use Prim.Native.Nat.{_+_, _*_, _^_, _≤_, _<_};
 ghost use lib.ListN.{length};
 ghost use Rattle.rules.specs.Log.{recordsIn};
-ghost use Rattle.play.specs.Replayed.{RecordReplayed, moduleOf};
+ghost use Rattle.play.specs.Replayed.{moduleOf};
 ghost use Rattle.replay.specs.Places.{PlaceReplayed, PartReplayed};
 use play::Played;
 use reader::Found;
 use rules::Device;
-
-// One record of a log is played on the module, and its line is written.
-pub fn play(
-    out: &mut [u8],
-    at: usize,
-    number: u64,
-    d: Device,
-    area: &mut [u8],
-    answer: &mut [u8],
-    bytes: &[u8],
-) -> Played
-    requires { ⌜ at + 96 ≤ length (now out) ⌝ }
-    requires { ⌜ length (now answer) ≡ 64 ⌝ }
-    ensures { λ r. ⌜ r .at ≤ at + 96 ⌝ }
-    ensures { λ r. ⌜ RecordReplayed number (moduleOf d (now (area .entry))) (now (bytes .entry)) (now (out .entry)) at (now (out .exit)) (now (area .exit)) r ⌝ }
-{
-    let entry = log::decode(bytes);
-    play::play_entry(out, at, number, d, area, answer, entry, bytes)
-}
 
 // What the reader finds at a place of a log is played, and its line is written: a record's, a short tail's, or none at the end.
 pub fn play_at(
