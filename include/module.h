@@ -10,6 +10,14 @@
  *  - A buffer that a function writes overlaps no other buffer of the same call. Those that are only read may overlap.
  *  - No two calls at one time on the same record or the same area.
  *  - An R number (below 0) has written nothing at all.
+ *  - A record is written byte after byte, not at once. Where power may go at any moment, work on a copy in ordinary memory
+ *    and put it in the record's place when the function has returned; for an area that outlives power, the area likewise.
+ *
+ * Record and area live as long as the module does, through every power cycle: module_fresh is for a new module, once in its
+ * life, and module_power for each time that power comes back. A module made fresh again would give out its contexts from 1
+ * again, and a late piece of one transfer could land in another's. The area may begin with any bytes.
+ *
+ * The library calls memcpy and memset, and nothing else.
  */
 #ifndef MODULE_LIBRARY_H
 #define MODULE_LIBRARY_H
@@ -51,6 +59,48 @@ extern "C" {
 #define MODULE_UNLOCK 22
 #define MODULE_FREEZE 23
 
+/* The statuses, and the extended numbers of MODULE_OUT_OF_TURN. */
+#define MODULE_ACCEPTED 0
+#define MODULE_NOT_SERVED 1       /* the function is not served at this revision */
+#define MODULE_WRONG_FIELD 3      /* the request's length, or a field of it */
+#define MODULE_NO_VERSION 6       /* Query in Staged with staged version 0 */
+#define MODULE_OUT_OF_TURN 7      /* a step of a transfer out of turn; the extended number says why */
+#define MODULE_NO_CONTEXT 8       /* Start with every context given out */
+#define MODULE_FORBIDDEN 10       /* the security state forbids the call */
+#define MODULE_WRONG_PASSPHRASE 11
+/*   Start:  1 Receiving or Verifying; 2 Staged
+ *   Send:   1 not Receiving, or not with this context
+ *   Finish: 1 the context is not live; 2 not Receiving
+ *   Query:  1 the context is not live; 2 Verifying; 3 Failed; 4 Receiving */
+
+/* Requests and answers, little-endian; in brackets the bytes. Every answer but that of MODULE_MASK begins with status [0-1] and
+ * extended number [2-3]; where the status is not 0 the rest of it is zeros, and MODULE_NOT_SERVED answers 4 bytes.
+ *
+ *   MODULE_MASK                request: anything
+ *                              answer:  the bits of the functions that the revision serves [0-3], and no status
+ *   MODULE_GET_THRESHOLD       request: none
+ *                              answer:  enable bits [4-5] (0 spare, 1 media, 2 controller), spare [6], media temperature [7-8],
+ *                                       controller temperature [9-10], zero [11]
+ *   MODULE_GET_FW_INFO         request: none
+ *                              answer:  area size [4-7], longest piece [8-11], microseconds of a tick [12-15] and of a
+ *                                       verification [16-19], capability 0 [20], zeros [21-23], interface version 1 [24-27],
+ *                                       running version [28-35], staged version [36-43]
+ *   MODULE_START               request: none
+ *                              answer:  context [4-7]
+ *   MODULE_SEND                request: context [0-3], offset [4-7], length [8-11], the piece from 12 on
+ *   MODULE_FINISH              request: flag [0] (0 verify, 1 abort), reserved [1-3], context [4-7]
+ *   MODULE_QUERY               request: context [0-3]
+ *                              answer:  staged version [4-11]
+ *   MODULE_SET_THRESHOLD       request: enable bits [0-1], spare [2], media temperature [3-4], controller temperature [5-6]
+ *   MODULE_GET_SECURITY_STATE  request: none
+ *                              answer:  zeros [4-7], state [8] (bit 1 enabled, 2 locked, 3 frozen, 4 attempts at 10), zeros [9-11]
+ *   MODULE_SET_PASSPHRASE      request: current passphrase [0-31], new passphrase [32-63]
+ *   MODULE_DISABLE, MODULE_UNLOCK
+ *                              request: current passphrase [0-31]
+ *   MODULE_FREEZE              request: none
+ *
+ * A request has exactly these bytes, but for MODULE_MASK's. Where no answer is named it is the status and the extended number. */
+
 /* The device record, little-endian:
  *
  *   0       phase: 0 Idle, 1 Receiving, 2 Verifying, 3 Staged, 4 Failed
@@ -70,9 +120,10 @@ extern "C" {
  *   64-95   passphrase
  *   96-127  zero
  *
- * Bytes that are not of this form are no record, and give R3. */
+ * Bytes that are not of this form are no record, and give R3. 128 zeros are of this form: a record with running version 0, and
+ * not what module_fresh makes. */
 
-/* A new module's record: Idle, running version 1, everything else zero or off.
+/* A new module's record: Idle, running version 1, everything else zero or off. Once in a module's life.
  *
  * Reads:   the length of the record; none of its bytes.
  * Writes:  all of the record.
@@ -100,7 +151,8 @@ int32_t module_call(uint8_t *record, size_t record_len, uint8_t *area, size_t ar
  * Answers: 0; MODULE_R2 or MODULE_R3. */
 int32_t module_tick(uint8_t *record, size_t record_len, const uint8_t *area, size_t area_len);
 
-/* One power cycle: a staged version runs, a transfer is over, security is locked if it is enabled.
+/* One power cycle: a staged version runs, a transfer is over, security is locked if it is enabled. Each time that power comes
+ * back, before any call.
  *
  * Reads:   record, the length of the area; none of its bytes.
  * Writes:  record.
