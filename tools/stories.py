@@ -36,7 +36,7 @@ bad-size (size bytes; one too few if not said), bad-number, bad-count, bad-versi
 zero-version (in all records, or at one) or bad-sum. But for bad-sum the sums are right, so one fault stands alone.
 
 FORM is kind N, host N, length N or padding [byte B], on what is else a Start by host 1; or tick [byte B], power [byte B].
-bad and raw take times N.
+bad and raw take times N. A line makes at most 100000 records.
 """
 import re
 
@@ -79,6 +79,8 @@ IMAGES = {"good": None, "bad-size": "size", "bad-number": "number", "bad-count":
           "zero-version": "zero-version", "bad-sum": "sum"}
 TIMES = {"times": (1, 100000)}
 
+# Of one line: bytes, records, and digits of a number.
+MOST_BYTES, MOST_RECORDS, MOST_DIGITS = 1 << 20, 100000, 100
 
 PHASES = ("idle", "receiving", "verifying", "staged", "failed")
 STATUS = re.compile(r"(\d+)(?:/(\d+))?$")
@@ -124,10 +126,16 @@ def words_of(line):
     return words
 
 
+def value_of(word, name):
+    if len(word) > MOST_DIGITS:
+        raise Wrong(f"{name} has a number of more than {MOST_DIGITS} digits")
+    return int(word, 16) if word.startswith("0x") else int(word)
+
+
 def a_number(word, name, least, most):
     if not NUMBER.match(word):
         raise Wrong(f"{name} wants a number and has '{word}'")
-    value = int(word, 0) if word.startswith("0x") else int(word)
+    value = value_of(word, name)
     if not least <= value <= most:
         raise Wrong(f"{name} is {least} to {most} and has {value}")
     return value
@@ -143,9 +151,10 @@ def some_bytes(words, name):
         taken += 1
         if item:
             one = bytes.fromhex(item.group(1)) if item.group(1) else item.group(2).encode()
-            data += one * int(item.group(3) or 1)
-        if len(data) > 1 << 20:
-            raise Wrong(f"{name} is longer than any log record")
+            times = value_of(item.group(3) or "1", name)
+            if len(data) + len(one) * times > MOST_BYTES:
+                raise Wrong(f"{name} is longer than any log record")
+            data += one * times
     if taken == 0:
         raise Wrong(f'{name} wants bytes: as 0a, 0a*12, "text" or zeros')
     del words[:taken]
@@ -154,9 +163,10 @@ def some_bytes(words, name):
 
 def a_range(word):
     found = re.match(r"(\d+)\.\.(\d+)$", word)
-    if not found or int(found.group(1)) > int(found.group(2)):
+    first, last = (value_of(part, "piece") for part in found.groups()) if found else (1, 0)
+    if first > last:
         raise Wrong(f"piece wants a range as 0..384 and has '{word}'")
-    return int(found.group(1)), int(found.group(2))
+    return first, last
 
 
 def some_sizes(word):
@@ -262,6 +272,13 @@ def requests_of(verb, fields):
     return [fields.get("request", b"")]
 
 
+def repeated(made, fields):
+    times = fields.get("times", 1)
+    if len(made) * times > MOST_RECORDS:
+        raise Wrong(f"a line makes at most {MOST_RECORDS} records, and this one makes {len(made) * times}")
+    return made * times
+
+
 def call_step(host, verb, words):
     function, types = CALLS[verb]
     fields = fields_of(words, {**types, **EVERY_CALL})
@@ -275,7 +292,7 @@ def call_step(host, verb, words):
             request = request[:fields["bytes"]].ljust(fields["bytes"], b"\0")
         at_most(request, records.REQUEST_MOST, "the request")
         made.append(records.call(host, function, request, fields.get("revision", 2)))
-    return made * fields.get("times", 1)
+    return repeated(made, fields)
 
 
 def bad_step(words):
@@ -297,14 +314,14 @@ def bad_step(words):
         record = records.poke(record, fields.get("byte", records.RECORD - 1), 1)
     if records.why_bad(record) is None:
         raise Wrong(f"{' '.join(words)} is not bad")
-    return [record] * fields.get("times", 1)
+    return repeated([record], fields)
 
 
 def raw_step(words):
     words = list(words)
     data = at_most(some_bytes(words, "raw"), records.RECORD, "raw")
     fields = fields_of(words, TIMES)
-    return [data.ljust(records.RECORD, b"\0")] * fields.get("times", 1)
+    return repeated([data.ljust(records.RECORD, b"\0")], fields)
 
 
 def expected(words):
@@ -316,7 +333,7 @@ def expected(words):
             return answer
     elif len(words) == 1 and STATUS.match(words[0]):
         status, extended = STATUS.match(words[0]).groups()
-        return int(status), int(extended or 0)
+        return value_of(status, "=>"), value_of(extended or "0", "=>")
     elif words == ["bad"]:
         return "bad"
     raise Wrong("behind => comes a status, as 0 or 7/1, or answer and its bytes, or bad")
