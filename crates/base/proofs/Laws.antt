@@ -29,19 +29,17 @@ module _ (s : List ℕ) (i : ℕ) (so-far : Bool) (whole : (so-far && zeros? (dr
   unfolding zeros?
   zeros-end h = sym (and-true so-far) ∙ sym (rw (drop-of-length-le s h) refl) ∙ whole
 
--- a scan for a place at which two lists differ
-module _ (a b : List ℕ) (i : ℕ) (whole : same? (drop i a) (drop i b) ≡ same? a b) where
-  pub same-on : i < length a → i < length b → getD a i 0 ≡ getD b i 0 → same? (drop (i + 1) a) (drop (i + 1) b) ≡ same? a b
+-- a test of every two bytes, likewise
+module _ (a b : List ℕ) (i : ℕ) (so-far : Bool) (whole : (so-far && same? (drop i a) (drop i b)) ≡ same? a b) where
+  pub same-on : i < length a → i < length b → ((so-far && eqb (getD a i 0) (getD b i 0)) && same? (drop (i + 1) a) (drop (i + 1) b)) ≡ same? a b
   unfolding same?
-  same-on h k e = sym (rw (add-one, drop-cons a i 0 h, drop-cons b i 0 k, eq-eqb (getD a i 0) (getD b i 0) e) refl) ∙ whole
+  same-on h k =
+      and-assoc so-far (eqb (getD a i 0) (getD b i 0)) (same? (drop (i + 1) a) (drop (i + 1) b))
+      ∙ sym (rw (add-one, drop-cons a i 0 h, drop-cons b i 0 k) refl) ∙ whole
 
-  pub same-stop : i < length a → i < length b → (getD a i 0 ≡ getD b i 0 → ⊥) → false ≡ same? a b
+  pub same-end : length a ≤ i → length b ≤ i → so-far ≡ same? a b
   unfolding same?
-  same-stop h k n = sym (rw (drop-cons a i 0 h, drop-cons b i 0 k, ne-eqb (getD a i 0) (getD b i 0) n) refl) ∙ whole
-
-  pub same-end : length a ≤ i → length b ≤ i → true ≡ same? a b
-  unfolding same?
-  same-end h k = sym (rw (drop-of-length-le a h, drop-of-length-le b k) refl) ∙ whole
+  same-end h k = sym (and-true so-far) ∙ sym (rw (drop-of-length-le a h, drop-of-length-le b k) refl) ∙ whole
 
 pub same-true : (a b : List ℕ) → same? a b ≡ true → a ≡ b
 unfolding same?

@@ -38,14 +38,6 @@ ofLe-le (suc k) n h =
     let g : n / 256 < 256 ^ k = div-lt-iff-lt-mul {k = 256} (omega arith) .1 (rw pow-suc at h) in
     rw (ofLe-le k (n / 256) g) (omega arith)
 
--- one turn of the reading loop, which goes down
-pub number-on : (l : List ℕ) (i n b : ℕ) → 0 < i → i ≤ length l → n ≡ ofLe (drop i l) → b ≡ getD l (i - 1) 0 → n * 256 + b ≡ ofLe (drop (i - 1) l)
-number-on l i n b p h e f =
-    let back : suc (i - 1) ≡ i = omega arith in
-    let low : i - 1 < length l = omega arith in
-    let step : drop (i - 1) l ≡ getD l (i - 1) 0 ∷ drop i l = drop-cons l (i - 1) 0 low ∙ ap (λ (k : ℕ). getD l (i - 1) 0 ∷ drop k l) back in
-    rw (step, ← e, ← f) (omega arith)
-
 -- the writing loop: a turn, and the end
 module _ (out : List ℕ) (i L m n : ℕ) (long : length out ≡ L) (whole : take i out ++ le (L - i) m ≡ le L n) where
   pub put-on : i < L → take (i + 1) (set out i (m % 256)) ++ le (L - (i + 1)) (m / 256) ≡ le L n

@@ -8,12 +8,15 @@ use native.Mathlib.Omega.{arith}
 use lib.Bits.{bitOr, or-shifted-r}
 use lib.ListN.{length, getD, take, drop}
 use lib.Seq.{drop-cons}
-use mir.Syntax.{w8, w32, w64}
+use mir.Syntax.{w8, w16, w32, w64}
 use mir.Val.{Fits}
 use Rattle.rules.specs.Bytes.{ofLe, numberAt}
 use Rattle.base.proofs.Le.{Bytes}
 
 -- a byte fits more bits too
+pub in-half : (n : ℕ) → Fits w8 n → Fits w16 n
+in-half n f = let small : n < 256 = f .fits in record { fits = omega arith }
+
 pub in-word : (n : ℕ) → Fits w8 n → Fits w32 n
 in-word n f = let small : n < 256 = f .fits in record { fits = omega arith }
 
@@ -28,6 +31,15 @@ first k i j s h e =
 -- a byte above the k bits of a number is added to it
 above : (k m l x : ℕ) {n : ℕ} → l < 2 ^ k → x * 2 ^ k % m ≡ x * 2 ^ k → n ≡ l → bitOr n (x * 2 ^ k % m) ≡ l + x * 2 ^ k
 above k m l x h f e = (λ i. bitOr (e i) (f i)) ∙ or-shifted-r x k l h ∙ add-comm (x * 2 ^ k) l
+
+-- the two bytes at a place, the second shifted above the first, are the number there
+pub two : (s : List ℕ) (at : ℕ) → Bytes s → at + 2 ≤ length s → bitOr (getD s at 0) (getD s (at + 1) 0 * 2 ^ 8 % 2 ^ 16) ≡ numberAt 2 at s
+two s at bytes h =
+    let d0 : numberAt 2 at s ≡ getD s at 0 + 256 * numberAt 1 (at + 1) s = first 1 at (at + 1) s (omega arith) (omega arith) in
+    let d1 : numberAt 1 (at + 1) s ≡ getD s (at + 1) 0 + 256 * numberAt 0 (at + 2) s = first 0 (at + 1) (at + 2) s (omega arith) (omega arith) in
+    let x0 : getD s at 0 < 256 = bytes at .fits in
+    let x1 : getD s (at + 1) 0 < 256 = bytes (at + 1) .fits in
+    above 8 (2 ^ 16) (getD s at 0) (getD s (at + 1) 0) (omega arith) (omega arith) refl ∙ omega (arith, d0, d1)
 
 -- four bytes, each shifted above those before it
 four-shifted : (x0 x1 x2 x3 : ℕ) → x0 < 256 → x1 < 256 → x2 < 256 → x3 < 256

@@ -1,6 +1,6 @@
 // Bytes: tests on them, copies of them.
 ghost use mathlib.Core.Path.{_≡_};
-ghost use Rattle.rules.specs.Bytes.{zeros?, same?, le, ofLe, splice, numberAt};
+ghost use Rattle.rules.specs.Bytes.{zeros?, same?, le, splice, numberAt};
 ghost use Prim.Native.Nat.{_≤_, _+_};
 ghost use lib.ListN.{length};
 
@@ -17,35 +17,20 @@ pub fn all_zero(s: &[u8]) -> bool
     zero
 }
 
-// The two slices hold the same bytes.
+// The two slices hold the same bytes. No byte ends the loop early, so that the time it takes tells nothing of a passphrase.
 pub fn same(a: &[u8], b: &[u8]) -> bool
     ensures { λ r. ⌜ r ≡ same? (now (a .entry)) (now (b .entry)) ⌝ }
 {
     if a.len() != b.len() {
         return false;
     }
+    let mut equal = true;
     let mut i = 0;
     while i < a.len() {
-        if a[i] != b[i] {
-            return false;
-        }
+        equal = equal & (a[i] == b[i]);
         i += 1;
     }
-    true
-}
-
-// The number whose bytes, lowest first, the slice holds.
-pub fn number(s: &[u8]) -> u64
-    requires { ⌜ length (now s) ≤ 8 ⌝ }
-    ensures { λ r. ⌜ r ≡ ofLe (now (s .entry)) ⌝ }
-{
-    let mut n: u64 = 0;
-    let mut i = s.len();
-    while 0 < i {
-        i -= 1;
-        n = n * 256 + wide(s[i]);
-    }
-    n
+    equal
 }
 
 pub fn wide(x: u8) -> u64
@@ -97,7 +82,24 @@ pub fn copy_at(out: &mut [u8], at: usize, from: &[u8])
     copy(&mut out[at..e], from);
 }
 
-// The number in the 4 bytes at a place. Put together by shifts and not by a loop, it is read as one word wherever it is used.
+// The byte at a place.
+pub fn byte(s: &[u8], at: usize) -> u8
+    requires { ⌜ at + 1 ≤ length (now s) ⌝ }
+    ensures { λ r. ⌜ r ≡ numberAt 1 at (now (s .entry)) ⌝ }
+{
+    s[at]
+}
+
+// The number in the 2 bytes at a place. It is put together by shifts and not by a loop, and so are the wider ones, so that each is read as one number
+// wherever it is used.
+pub fn half(s: &[u8], at: usize) -> u16
+    requires { ⌜ at + 2 ≤ length (now s) ⌝ }
+    ensures { λ r. ⌜ r ≡ numberAt 2 at (now (s .entry)) ⌝ }
+{
+    (s[at] as u16) | ((s[at + 1] as u16) << 8)
+}
+
+// The number in the 4 bytes at a place.
 pub fn word(s: &[u8], at: usize) -> u32
     requires { ⌜ at + 4 ≤ length (now s) ⌝ }
     ensures { λ r. ⌜ r ≡ numberAt 4 at (now (s .entry)) ⌝ }
@@ -108,24 +110,7 @@ pub fn word(s: &[u8], at: usize) -> u32
         | ((s[at + 3] as u32) << 24)
 }
 
-// The byte at a place.
-pub fn byte(s: &[u8], at: usize) -> u8
-    requires { ⌜ at + 1 ≤ length (now s) ⌝ }
-    ensures { λ r. ⌜ r ≡ numberAt 1 at (now (s .entry)) ⌝ }
-{
-    s[at]
-}
-
-// The number in the 2 bytes at a place.
-pub fn half(s: &[u8], at: usize) -> u16
-    requires { ⌜ at + 2 ≤ length (now s) ⌝ }
-    ensures { λ r. ⌜ r ≡ numberAt 2 at (now (s .entry)) ⌝ }
-{
-    let e = at + 2;
-    number(&s[at..e]) as u16
-}
-
-// The number in the 8 bytes at a place, by shifts too.
+// The number in the 8 bytes at a place.
 pub fn long(s: &[u8], at: usize) -> u64
     requires { ⌜ at + 8 ≤ length (now s) ⌝ }
     ensures { λ r. ⌜ r ≡ numberAt 8 at (now (s .entry)) ⌝ }

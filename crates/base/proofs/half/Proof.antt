@@ -1,38 +1,21 @@
--- `base::half` meets its contract. It is the number in a part of two bytes, which fits 16 bits.
+-- `base::half` meets its contract. The bytes by shifts are the number (proofs/Shifts.antt).
 -- Assumes nothing.
-use mathlib.Core.Path.{_≡_, _∙_, ap}
-use native.Mathlib.Omega.{arith}
-use native.Mathlib.Nat.{add-sub-cancel-left}
-use Prim.Native.Nat.{ℕ}
-use lib.ListN.{take, drop}
-use Rattle.rules.specs.Bytes.{ofLe, numberAt}
-use Rattle.base.proofs.Le.{numberAt-below}
+use Prim.Native.Nat.{_+_}
+use Rattle.base.proofs.Shifts.{in-half, two}
 use borrow.Author.Needs.{needs}
 use Rattle.base.proofs.half.Statement.{statement}
 use Rattle.base.proofs.half.Tie as tie
 
-part : (c : tie.After-number) → c .number .result ≡ numberAt 2 (c .before .before .before .args .at) (c .before .before .before .args .s .now)
-part c =
-    let a = c .before .before .before .args in
-    c .number .ensures ∙ ap (λ (k : ℕ). ofLe (take k (drop a.at a.s.now))) (add-sub-cancel-left a.at 2)
-
 cast-result : tie.Need-cast-result
-cast-result c =
-    let a = c .before .before .before .args in
-    omega (arith, part c, numberAt-below 2 a.at a.s.now (c .before .before .shared-slice-known .given))
+cast-result c = in-half _ (c .shared-slice-known .given (c .before .args .at))
+
+cast-result-2 : tie.Need-cast-result-2
+cast-result-2 c = in-half _ (c .shared-slice-known2 .given (c .before .before .args .at + 1))
 
 returns : tie.Need-returns
-returns c = part c
+returns c = let a = c .before .before .args in two (a .s .now) (a .at) (c .shared-slice-known2 .given) (c .before .before .pre)
 
--- by search: add-e, sub-number, part-number-start, part-number-end, number-requires
+-- by search: shared-slice-read-result, add-result, shared-slice-read-result-2
 pub half-spec : {M : Type 1} → statement M
 half-spec =
-    tie.close
-    (tie.spec
-    (λ c. search needs)
-    (λ c. search needs)
-    (λ c. search needs)
-    (λ c. search needs)
-    (λ c κs. search needs)
-    cast-result
-    returns)
+    tie.close (tie.spec (λ c. search needs) cast-result (λ c. search needs) (λ c. search needs) cast-result-2 returns)

@@ -1,38 +1,37 @@
--- `base::same` meets its contract. What is left of the two is the same exactly if the wholes are.
+-- `base::same` meets its contract: what was compared, and what is left of the two, compare as the wholes.
 -- Assumes nothing.
-use borrow.Author.Needs.{needs}
-use mathlib.Core.Path.{_≡_}
+use mathlib.Core.Bool.{_&&_}
+use mathlib.Core.Path.{_≡_, refl}
 use Prim.Native.Nat.{_≤_, _-_}
 use native.Mathlib.Omega.{arith}
+use borrow.Author.Needs.{needs}
 use lib.ListN.{length, drop}
 use Rattle.rules.specs.Bytes.{same?}
-use Rattle.base.proofs.Laws.{same-lengths, same-stop, same-on, same-end}
+use Rattle.base.proofs.Laws.{same-lengths, same-on, same-end}
 use Rattle.base.proofs.same.Statement.{statement}
 use Rattle.base.proofs.same.Tie as tie
 
 abbrev Inv-loop : tie.InvT-loop
-Inv-loop a b i₀ i = (i ≤ length a) × (same? (drop i a) (drop i b) ≡ same? a b)
+Inv-loop a b equal₀ i₀ equal i = (i ≤ length a) × ((equal && same? (drop i a) (drop i b)) ≡ same? a b)
 
 abbrev μ-loop : tie.MeasureT-loop
-μ-loop a b i₀ i = length a - i
+μ-loop a b equal₀ i₀ equal i = length a - i
 
 returns : tie.Need-returns Inv-loop μ-loop
 returns c = same-lengths (c .before .args .a .now) (c .before .args .b .now) (c .if1 .taken)
 
-returns-2 : tie.Need-returns-2 Inv-loop μ-loop
-returns-2 c =
-    let k = c .before .before .before in
-    same-stop _ _ _ (k .before .loop .inv .1) (k .loop-test .taken) (omega arith) (c .if2 .taken)
+loop-holds : tie.Need-loop-holds Inv-loop μ-loop
+loop-holds c = (search needs, refl)
 
 loop-again : tie.Need-loop-again Inv-loop μ-loop
 loop-again c =
-    let k = c .before .before .before in
-    (search needs, same-on _ _ _ (k .before .loop .inv .1) (k .loop-test .taken) (omega arith) (c .if2 .left))
+    let k = c .before .before in
+    (search needs, same-on _ _ _ (k .before .loop .equal) (k .before .loop .inv .1) (k .loop-test .taken) (omega arith))
 
-returns-3 : tie.Need-returns-3 Inv-loop μ-loop
-returns-3 c = same-end _ _ _ (c .before .loop .inv .1) (c .loop-test .left) (omega arith)
+returns-2 : tie.Need-returns-2 Inv-loop μ-loop
+returns-2 c = same-end _ _ _ _ (c .before .loop .inv .1) (c .loop-test .left) (omega arith)
 
--- by search: loop-holds, shared-slice-read-if2, shared-slice-read-if2-2, add-i, loop-less
+-- by search: shared-slice-read-equal, shared-slice-read-equal-2, add-i, loop-less
 pub same-spec : {M : Type 1} → statement M
 same-spec =
     tie.close
@@ -40,11 +39,10 @@ same-spec =
     Inv-loop
     μ-loop
     returns
+    loop-holds
     (λ c. search needs)
     (λ c. search needs)
-    (λ c. search needs)
-    returns-2
     (λ c. search needs)
     (λ c. search needs)
     loop-again
-    returns-3)
+    returns-2)
