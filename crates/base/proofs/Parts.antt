@@ -43,6 +43,18 @@ pub splice-next : (done new old : List ℕ) (at : ℕ) → length done ≡ at
 splice-next done new old at e =
     rw (take-at done (drop at old) at e, ← drop-drop (length new) at, drop-at done (drop at old) at e, append-assoc, length-append, e, drop-drop) refl
 
+-- what is written right behind what was written
+pub splice-splice : (at : ℕ) (a b old : List ℕ) → at ≤ length old → splice (at + length a) b (splice at a old) ≡ splice at (a ++ b) old
+splice-splice at a b old h =
+    let p : List ℕ = take at old ++ a in
+    let long : length p ≡ at + length a = length-append (take at old) a ∙ ap (λ (k : ℕ). k + length a) (length-take-le at old h) in
+    let both : length (p ++ b) ≡ at + length (a ++ b) = rw (length-append, long, length-append) (omega arith) in
+    ap (splice (at + length a) b) (sym (append-assoc (take at old) a (drop (at + length a) old)))
+    ∙ splice-next p b old (at + length a) long
+    ∙ ap (λ (k : ℕ). p ++ b ++ drop k old) both
+    ∙ ap (λ (l : List ℕ). l ++ drop (at + length (a ++ b)) old) (append-assoc (take at old) a b)
+    ∙ append-assoc (take at old) (a ++ b) (drop (at + length (a ++ b)) old)
+
 -- the part from k on, as the code's range has it
 pub rest : (k : ℕ) (l : List ℕ) → take (length l - k) (drop k l) ≡ drop k l
 rest k l = take-all (length l - k) (drop k l) (rw length-drop (omega arith))

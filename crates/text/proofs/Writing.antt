@@ -1,34 +1,16 @@
 -- Laws of writing: one text after another is the two at once.
 -- Assumes nothing.
 use mathlib.Core.Path.{_≡_, refl, sym, _∙_, ap, subst}
-use mathlib.Core.List.{List, [], _∷_, _++_, append-assoc}
+use mathlib.Core.List.{List, [], _∷_, _++_}
 use Prim.Native.Nat.{ℕ, _≤_, _<_, _+_}
 use native.Mathlib.Nat.{zero-add}
 use native.Mathlib.Numerals.{add-one}
 use native.Mathlib.Omega.{arith}
 use lib.ListN.{length, take, drop, set, length-append}
-use lib.Seq.{take-at, drop-at, drop-drop, length-take-le, set-split, take-append-seam}
+use lib.Seq.{set-split, take-append-seam}
 use Rattle.rules.specs.Bytes.{splice}
+use Rattle.base.proofs.Parts.{splice-splice}
 use Rattle.text.specs.Wrote.{Wrote}
-
-splice-splice : (at : ℕ) (a b old : List ℕ) → at ≤ length old → splice (at + length a) b (splice at a old) ≡ splice at (a ++ b) old
-splice-splice at a b old h =
-    let p : List ℕ = take at old ++ a in
-    let q : List ℕ = drop (at + length a) old in
-    let long : length p ≡ at + length a = length-append (take at old) a ∙ ap (λ (k : ℕ). k + length a) (length-take-le at old h) in
-    let one : splice at a old ≡ p ++ q = sym (append-assoc (take at old) a q) in
-    let front : take (at + length a) (p ++ q) ≡ p = take-at p q (at + length a) long in
-    let both : at + length a + length b ≡ at + length (a ++ b) = rw length-append (omega arith) in
-    let back : drop (at + length a + length b) (p ++ q) ≡ drop (at + length (a ++ b)) old =
-    sym (drop-drop (length b) (at + length a) (p ++ q))
-    ∙ ap (drop (length b)) (drop-at p q (at + length a) long)
-    ∙ drop-drop (length b) (at + length a) old
-    ∙ ap (λ (k : ℕ). drop k old) both in
-    ap (splice (at + length a) b) one
-    ∙ ap (λ (z : List ℕ). z ++ (b ++ drop (at + length a + length b) (p ++ q))) front
-    ∙ ap (λ (z : List ℕ). p ++ (b ++ z)) back
-    ∙ append-assoc (take at old) a (b ++ drop (at + length (a ++ b)) old)
-    ∙ ap (λ (z : List ℕ). take at old ++ z) (sym (append-assoc a b (drop (at + length (a ++ b)) old)))
 
 pub and-then : {old mid new a b : List ℕ} {at i j : ℕ} → at ≤ length old → Wrote old at a mid i → Wrote mid i b new j → Wrote old at (a ++ b) new j
 and-then {old} {mid} {new} {a} {b} {at} {i} {j} h p q =
