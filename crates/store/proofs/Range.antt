@@ -7,6 +7,7 @@ use lib.ListN.{length}
 use mir.Val.{Val}
 use denote.Laws.{Is}
 use denote.Struct.Laws as LL
+use Rattle.rules.specs.declared.Security.{Security}
 use Rattle.rules.specs.declared.Device.{Device}
 use Rattle.rules.proofs.Device as D
 use Rattle.rules.proofs.Device.Laws as D′
@@ -21,6 +22,9 @@ use Rattle.store.proofs.Back.{InRange}
 same-length : (l : List ℕ) → length (map (λ (x : ℕ). x) l) ≡ length l
 same-length [] = refl
 same-length (x ∷ xs) = ap suc (same-length xs)
+
+pub passphrase-long : (s : Security) (vs : List Val) → Is S.the-row s vs → length (s .passphrase) ≡ 32
+passphrase-long s vs is = sym (same-length (s .passphrase)) ∙ LL.owed S.the-type S′.the-laws s vs is .1 .1 .1 .1 .0 .1 .0 .1
 
 pub in-range : (d : Device) (vs : List Val) → Is D.the-row d vs → InRange d
 in-range d vs is =
@@ -39,5 +43,5 @@ in-range d vs is =
       media = h .1 .1 .0 .1;
       controller = h .1 .1 .1 .0 .1;
       attempts = s .1 .1 .1 .0 .1;
-      passphrase = sym (same-length (d .security .passphrase)) ∙ s .1 .1 .1 .1 .0 .1 .0 .1;
+      passphrase = passphrase-long (d .security) _ (o .1 .1 .0);
     }

@@ -13,6 +13,7 @@ use Rattle.rules.specs.declared.Phase.{Phase}
 use Rattle.rules.specs.declared.Phase.the-variants.{Idle, Receiving, Verifying, Staged, Failed}
 use Rattle.rules.specs.declared.Transfer.{Transfer}
 use Rattle.rules.specs.declared.Thresholds.{Thresholds}
+use Rattle.rules.specs.declared.Security.{Security}
 use Rattle.rules.specs.declared.Device.{Device}
 
 -- the bytes of a record
@@ -23,16 +24,14 @@ recordSize = 128
 abbrev pub flag : Bool → ℕ
 flag on = if on then 1 else 0
 
--- 0 phase (0 Idle, 1 Receiving, 2 Verifying, 3 Staged, 4 Failed); 1 enabled; 2 locked; 3 frozen; 4 attempts; 5 ticks left; 6 to 7 threshold enable bits
+-- 1 enabled; 2 locked; 3 frozen; 4 attempts
+abbrev pub stateBytes : Security → List ℕ
+stateBytes s = le 1 (flag (s .enabled)) ++ le 1 (flag (s .locked)) ++ le 1 (flag (s .frozen)) ++ le 1 (s .attempts)
+
+-- 0 phase (0 Idle, 1 Receiving, 2 Verifying, 3 Staged, 4 Failed); 1 to 4 the security state; 5 ticks left; 6 to 7 threshold enable bits
 abbrev pub firstBytes : Device → List ℕ
 firstBytes d =
-    le 1 (phaseNumber (d .transfer .phase))
-    ++ le 1 (flag (d .security .enabled))
-    ++ le 1 (flag (d .security .locked))
-    ++ le 1 (flag (d .security .frozen))
-    ++ le 1 (d .security .attempts)
-    ++ le 1 (d .transfer .ticks)
-    ++ le 2 (d .thresholds .enable)
+    le 1 (phaseNumber (d .transfer .phase)) ++ stateBytes (d .security) ++ le 1 (d .transfer .ticks) ++ le 2 (d .thresholds .enable)
 
 -- 8 to 11 contexts given out; 12 to 15 bytes received; 16 to 23 running version; 24 to 31 staged version
 abbrev pub transferBytes : Transfer → List ℕ

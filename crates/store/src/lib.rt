@@ -1,30 +1,41 @@
 // The device record as 128 bytes: specs/Store.antt has the places. Crate `restore` reads them back.
+// Every byte is written once, in the order of the places, and none is cleared first.
 ghost use mathlib.Core.Path.{_≡_};
+ghost use mathlib.Core.List.{_++_};
 ghost use lib.ListN.{length};
-ghost use Rattle.store.specs.Store.{flag, encodeOf};
-ghost use Rattle.store.specs.Places.{transferOver, thresholdsOver, securityOver};
+ghost use Rattle.rules.specs.Bytes.{splice, zeros};
+ghost use Rattle.store.specs.Store.{stateBytes, firstBytes, transferBytes, thresholdBytes, encodeOf};
 use rules::Device;
 use rules::Security;
 use rules::Thresholds;
 use rules::Transfer;
 
-fn flag(on: bool) -> u64
-    ensures { λ r. ⌜ r ≡ flag on ⌝ }
+fn put_state(s: Security, out: &mut [u8])
+    requires { ⌜ length (now out) ≡ 128 ⌝ }
+    ensures { λ r. ⌜ now (out .exit) ≡ splice 1 (stateBytes s) (now (out .entry)) ⌝ }
 {
-    if on {
-        return 1;
-    }
-    0
+    base::put_at(out, 1, 1, s.enabled as u64);
+    base::put_at(out, 2, 1, s.locked as u64);
+    base::put_at(out, 3, 1, s.frozen as u64);
+    base::put_at(out, 4, 1, s.attempts as u64);
+}
+
+fn put_first(d: Device, out: &mut [u8])
+    requires { ⌜ length (now out) ≡ 128 ⌝ }
+    ensures { λ r. ⌜ now (out .exit) ≡ splice 0 (firstBytes d) (now (out .entry)) ⌝ }
+{
+    let t = d.transfer;
+    let p = t.phase;
+    base::put_at(out, 0, 1, record::phase_number(p) as u64);
+    put_state(d.security, out);
+    base::put_at(out, 5, 1, t.ticks as u64);
+    base::put_at(out, 6, 2, d.thresholds.enable as u64);
 }
 
 fn put_transfer(t: Transfer, out: &mut [u8])
     requires { ⌜ length (now out) ≡ 128 ⌝ }
-    ensures { λ r. ⌜ now (out .exit) ≡ transferOver t (now (out .entry)) ⌝ }
+    ensures { λ r. ⌜ now (out .exit) ≡ splice 8 (transferBytes t) (now (out .entry)) ⌝ }
 {
-    let p = t.phase;
-    let phase = record::phase_number(p);
-    base::put_at(out, 0, 1, base::wide(phase));
-    base::put_at(out, 5, 1, base::wide(t.ticks));
     base::put_at(out, 8, 4, t.contexts as u64);
     base::put_at(out, 12, 4, t.received as u64);
     base::put_at(out, 16, 8, t.running);
@@ -33,23 +44,20 @@ fn put_transfer(t: Transfer, out: &mut [u8])
 
 fn put_thresholds(h: Thresholds, out: &mut [u8])
     requires { ⌜ length (now out) ≡ 128 ⌝ }
-    ensures { λ r. ⌜ now (out .exit) ≡ thresholdsOver h (now (out .entry)) ⌝ }
+    ensures { λ r. ⌜ now (out .exit) ≡ splice 32 (thresholdBytes h) (now (out .entry)) ⌝ }
 {
-    base::put_at(out, 6, 2, h.enable as u64);
-    base::put_at(out, 32, 1, base::wide(h.spare));
+    base::put_at(out, 32, 1, h.spare as u64);
+    base::put_at(out, 33, 1, 0);
     base::put_at(out, 34, 2, h.media as u64);
     base::put_at(out, 36, 2, h.controller as u64);
 }
 
-fn put_security(s: Security, out: &mut [u8])
+fn put_passphrase(s: Security, out: &mut [u8])
     requires { ⌜ length (now out) ≡ 128 ⌝ }
-    ensures { λ r. ⌜ now (out .exit) ≡ securityOver s (now (out .entry)) ⌝ }
+    ensures { λ r. ⌜ now (out .exit) ≡ splice 64 (s .passphrase ++ zeros 32) (now (out .entry)) ⌝ }
 {
-    base::put_at(out, 1, 1, flag(s.enabled));
-    base::put_at(out, 2, 1, flag(s.locked));
-    base::put_at(out, 3, 1, flag(s.frozen));
-    base::put_at(out, 4, 1, base::wide(s.attempts));
     base::copy_at(out, 64, &s.passphrase);
+    base::put_at(out, 96, 32, 0);
 }
 
 // Writes the record's bytes over 128 bytes, straight into where they are kept.
@@ -57,10 +65,11 @@ pub fn put(d: Device, out: &mut [u8])
     requires { ⌜ length (now out) ≡ 128 ⌝ }
     ensures { λ r. ⌜ now (out .exit) ≡ encodeOf d ⌝ }
 {
-    base::put_at(out, 0, 128, 0);
+    put_first(d, out);
     put_transfer(d.transfer, out);
     put_thresholds(d.thresholds, out);
-    put_security(d.security, out);
+    base::put_at(out, 38, 26, 0);
+    put_passphrase(d.security, out);
 }
 
 pub fn encode(d: Device) -> [u8; 128]

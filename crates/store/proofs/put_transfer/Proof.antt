@@ -1,28 +1,28 @@
--- `store::put_transfer` meets its contract. Six stores, one after another (proofs/Built.antt).
+-- `store::put_transfer` meets its contract. Four stores, each right behind the one before (proofs/Built.antt).
 -- Assumes nothing.
-use mathlib.Core.Path.{_∙_}
-use Rattle.store.proofs.Built.{transfer-placed}
+use native.Mathlib.Omega.{arith}
+use Rattle.rules.specs.Bytes.{le}
+use Rattle.store.proofs.Built.{Placed, then}
 use borrow.Author.Needs.{needs}
 use Rattle.store.proofs.put_transfer.Statement.{statement}
 use Rattle.store.proofs.put_transfer.Tie as tie
 
 returns : tie.Need-returns
 returns c =
-    let a = c .before .before .before .before .before .before .before .before .before .before .before .before .before .before .before .before .before .before .before .before .before .before .before .before .before .before .before .before .before .before .args in
-    transfer-placed (a .t) (a .out .now) (c .before .before .before .before .before .before .before .before .before .before .before .before .before .before .before .before .before .before .before .before .before .before .before .before .before .before .wide .ensures ∙ c .before .before .before .before .before .before .before .before .before .before .before .before .before .before .before .before .before .before .before .before .before .before .before .before .before .before .before .before .phase-number .ensures) (c .before .before .before .before .before .before .before .before .before .before .before .before .before .before .before .before .before .before .before .before .before .wide2 .ensures) (c .before .before .before .before .before .before .before .before .before .before .before .before .before .before .before .before .before .before .before .before .before .before .before .before .before .put-at .ensures) (c .before .before .before .before .before .before .before .before .before .before .before .before .before .before .before .before .before .before .before .before .put-at2 .ensures)
-    (c .before .before .before .before .before .before .before .before .before .before .before .before .before .before .before .put-at3 .ensures) (c .before .before .before .before .before .before .before .before .before .before .put-at4 .ensures) (c .before .before .before .before .before .before .put-at5 .ensures) (c .before .before .put-at6 .ensures)
+    let r = c .before .before in
+    let q = r .before .before .before .before in
+    let p = q .before .before .before .before in
+    let o = p .before .before .before .before .before in
+    let k = o .before .before .before .before in
+    let t = k .args .t in
+    let first : Placed 8 (le 4 (t .contexts)) (k .args .out .now) _ = record { inside = omega (arith, k .pre); is = o .put-at .ensures } in
+    then (le 8 (t .staged)) (then (le 8 (t .running)) (then (le 4 (t .received)) first (p .put-at2 .ensures)) (q .put-at3 .ensures)) (r .put-at4 .ensures) .is
 
--- by search: phase-number-requires, wide-requires, put-at-requires, wide-requires-2, put-at-requires-2, cast-put-at, put-at-requires-3,
--- cast-put-at-2, put-at-requires-4, put-at-requires-5, put-at-requires-6, same-length
+-- by search: cast-put-at, put-at-requires, cast-put-at-2, put-at-requires-2, put-at-requires-3, put-at-requires-4, same-length
 pub put-transfer-spec : {M : Type 1} → statement M
 put-transfer-spec =
     tie.close
     (tie.spec
-    (λ c κs. search needs)
-    (λ c κs. search needs)
-    (λ c κs. search needs)
-    (λ c κs. search needs)
-    (λ c κs. search needs)
     (λ c. search needs)
     (λ c κs. search needs)
     (λ c. search needs)
