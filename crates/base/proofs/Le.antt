@@ -1,8 +1,8 @@
 -- Laws of numbers as bytes, stated over the width.
-use mathlib.Core.Path.{_≡_, refl, sym, _∙_, ap}
+use mathlib.Core.Path.{_≡_, refl, sym, ap}
 use mathlib.Core.List.{List, [], _∷_, _++_, append-nil}
-use Prim.Native.Nat.{ℕ, zero, suc, _≤_, _<_, _+_, _-_, _*_, _^_, _/_, _%_}
-use native.Mathlib.Nat.{le-of-lt, pow-suc, pow-succ', div-lt-iff-lt-mul, lt-of-lt-of-le, pow-le-pow-right, min-le-left}
+use Prim.Native.Nat.{ℕ, zero, suc, _≤_, _<_, _+_, _-_, _^_, _/_, _%_}
+use native.Mathlib.Nat.{pow-suc, pow-succ', div-lt-iff-lt-mul, lt-of-lt-of-le, pow-le-pow-right, min-le-left}
 use native.Mathlib.Numerals.{add-one}
 use native.Mathlib.Omega.{arith}
 use lib.ListN.{length, getD, take, drop, set, length-take}

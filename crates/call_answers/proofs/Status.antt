@@ -1,7 +1,7 @@
 -- A status, an extended number and zeros, written one after the other over the front of a buffer.
 -- Assumes nothing.
 use mathlib.Core.Path.{_≡_, refl, sym, _∙_, ap}
-use mathlib.Core.List.{List, [], _∷_, _++_}
+use mathlib.Core.List.{List, _∷_, _++_}
 use Prim.Native.Nat.{ℕ, zero, suc}
 use native.Mathlib.Nat.{zero-add}
 use lib.ListN.{length, drop}

@@ -1,9 +1,8 @@
 -- Rows that are judged in parts: a refusal of the first part stands, and where the first part accepts, the second decides.
 -- Assumes nothing.
-use mathlib.Core.Path.{_≡_, refl, sym, _∙_, ap}
+use mathlib.Core.Path.{_≡_, sym, _∙_, ap}
 use mathlib.Core.Bool.{Bool, false}
 use mathlib.Core.List.{List, _∷_, _++_}
-use Rattle.rules.specs.Tests.{if_then_else_}
 use Rattle.rules.specs.Refusals.{Check, _gives_, verdict}
 use Rattle.rules.specs.declared.Refusal.{Refusal}
 use Rattle.rules.specs.declared.Verdict.{Verdict}

@@ -8,7 +8,6 @@ use native.Mathlib.Omega.{arith}
 use lib.ListN.{length, take, drop, take-append-drop}
 use Rattle.rules.specs.Module.{Module}
 use Rattle.rules.specs.Log.{entryOf, recordsIn, recordAt}
-use Rattle.rules.specs.Replay.{recordLine, recordPlayed}
 use Rattle.rules.specs.declared.Entry.{Entry}
 use Rattle.reader.specs.declared.Found.{Found}
 use Rattle.reader.specs.declared.Found.the-variants.{Record}

@@ -1,6 +1,6 @@
 -- What the outcome of a choice by tests says of the tests.
 use mathlib.Core.Path.{_≡_, refl}
-use mathlib.Core.Bool.{Bool, true, false, not, _&&_, _||_, false≢true, true≢false}
+use mathlib.Core.Bool.{Bool, true, false, _&&_, _||_, false≢true, true≢false}
 use Rattle.rules.specs.Tests.{if_then_else_}
 
 pub else-of : {A : Type 0} (t : Bool) {a b x : A} → (a ≡ x → ⊥) → (if t then a else b) ≡ x → (t ≡ false) × (b ≡ x)

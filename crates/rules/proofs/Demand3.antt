@@ -1,10 +1,7 @@
 -- Demand 3: the theorem, and what of it holds from every sound module.
 -- Assumes nothing.
-use Prim.Native.Nat.{ℕ}
 use mathlib.Core.Path.{_≡_, refl, sym, _∙_, subst}
-use mathlib.Core.List.{List, []}
-use lib.ListN.{length}
-use Rattle.rules.specs.Numbers.{areaSize}
+use mathlib.Core.List.{[]}
 use Rattle.rules.specs.Module.{Module, Event, tick}
 use Rattle.rules.specs.History.{historyOf, end, All}
 use Rattle.rules.specs.Transfers.{machine, History, none, AllInTurn}

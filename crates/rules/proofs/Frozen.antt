@@ -2,13 +2,11 @@
 -- counts no attempt.
 -- Assumes nothing.
 use mathlib.Core.Path.{_≡_, refl}
-use mathlib.Core.Bool.{Bool, true, _||_}
-use mathlib.Core.List.{List, [], _∷_}
-use Prim.Native.Nat.{ℕ}
-use Rattle.rules.specs.Tests.{if_then_else_, _=?_}
+use mathlib.Core.Bool.{true, _||_}
+use Rattle.rules.specs.Tests.{_=?_}
 use Rattle.rules.specs.Numbers.{attemptLimit}
 use Rattle.rules.specs.Refusals.{verdict}
-use Rattle.rules.specs.Security.{SecurityCall, GetSecurityState, SetPassphrase, Disable, Unlock, Freeze, passphraseChecks, securityChecks}
+use Rattle.rules.specs.Security.{SecurityCall, GetSecurityState, SetPassphrase, Disable, Unlock, Freeze, securityChecks}
 use Rattle.rules.specs.declared.Refusal.the-variants.{Status}
 use Rattle.rules.specs.declared.Verdict.{Verdict}
 use Rattle.rules.specs.declared.Verdict.the-variants.{Accepted, Refused}

@@ -1,18 +1,17 @@
 -- What it says of an event that it gave no R number: the buffers have their sizes and the record is possible; and what a possible record bounds.
 -- Assumes nothing.
 use mathlib.Core.Path.{_≡_, refl, sym, subst}
-use mathlib.Core.Bool.{Bool, true, false, not, _&&_, _||_}
-use mathlib.Core.List.{List, [], _∷_, _++_}
+use mathlib.Core.Bool.{Bool, true, false, not, _&&_}
+use mathlib.Core.List.{List, _∷_, _++_}
 use Prim.Native.Nat.{ℕ, _≤_}
 use lib.ListN.{length}
 use borrow.Author.Tests.{eqb-true, leb-true, ltb-false}
-use Rattle.rules.specs.Tests.{if_then_else_, _≤?_, _<?_, _=?_, _implies_, _unless_}
+use Rattle.rules.specs.Tests.{_≤?_, _<?_, _=?_, _implies_, _unless_}
 use Rattle.rules.specs.Bytes.{zeros?}
 use Rattle.rules.specs.Numbers.{areaSize, answerRoom, verification, attemptLimit}
 use Rattle.rules.specs.Record.{_is_, possible, possibleTransfer, possibleSecurity, possibleThresholds}
-use Rattle.rules.specs.Refusals.{Check, _gives_, verdict, R1Check, R2Check, R3Check, eventChecks}
+use Rattle.rules.specs.Refusals.{Check, _gives_, verdict, R1Check, R3Check, eventChecks}
 use Rattle.rules.specs.declared.Phase.the-variants.{Idle, Verifying, Staged}
-use Rattle.rules.specs.declared.Refusal.{Refusal}
 use Rattle.rules.specs.declared.Refusal.the-variants.{R, Status}
 use Rattle.rules.specs.declared.Verdict.{Verdict}
 use Rattle.rules.specs.declared.Verdict.the-variants.{Accepted, Refused}

@@ -14,7 +14,7 @@ use Rattle.rules.specs.Transfer.{TransferCall, GetFwInfo, Start, Send, F
 use Rattle.rules.specs.Module.{Call, OnMask, OnThresholds, OnTransfer, OnSecurity, OnNothing, Module, Event, call, tick, power, callIn}
 use Rattle.rules.specs.History.{end}
 use Rattle.rules.specs.Transfers.{Answer, machine, Exchange, History, Kind, Started, Sent, Finished, Other, callKind, kindOf}
-use Rattle.rules.specs.Sends.{tickCount, ticksIn, powerCount, powerCycles}
+use Rattle.rules.specs.Sends.{tickCount, powerCount, powerCycles}
 use Rattle.rules.specs.Demand3.{Sound, Stages, StagedOnce}
 use Rattle.rules.specs.declared.Verdict.the-variants.{Accepted}
 use Rattle.rules.specs.declared.Image.the-variants.{Good, Bad}

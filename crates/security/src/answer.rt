@@ -24,6 +24,6 @@ pub fn put_state(s: Security, answer: &mut [u8])
     ensures { λ r. ⌜ now (answer .exit) ≡ splice 0 (statusBytes 0 0 ++ securityState s) (now (answer .entry)) ⌝ }
 {
     let mut bytes = [0u8; 12];
-    base::put_at(&mut bytes, 8, 1, base::wide(state_byte(s)));
+    base::put_at(&mut bytes, 8, 1, state_byte(s) as u64);
     base::copy(answer, &bytes);
 }

@@ -3,7 +3,7 @@
 -- Assumes nothing.
 use Prim.Native.Nat.{ℕ}
 use mathlib.Core.List.{List, _++_}
-use mathlib.Core.Bool.{Bool, false, _&&_}
+use mathlib.Core.Bool.{Bool, _&&_}
 use lib.ListN.{length, take, drop}
 use Rattle.rules.specs.Tests.{if_then_else_, _≤?_, _=?_}
 use Rattle.rules.specs.Bytes.{le, numberAt, zeros, zeros?}

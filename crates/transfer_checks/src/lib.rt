@@ -2,6 +2,7 @@
 ghost use mathlib.Core.Path.{_≡_};
 ghost use Prim.Native.Nat.{_≤_};
 ghost use lib.ListN.{length};
+ghost use Rattle.rules.specs.Record.{live};
 ghost use Rattle.rules.specs.Refusals.{verdict};
 ghost use Rattle.rules.specs.Transfer.{startChecks, sendOf, finishOf, queryOf, transferChecks};
 use rules::Refusal;
@@ -55,6 +56,15 @@ pub fn judge_send(t: Transfer, request: &[u8]) -> Verdict
     Verdict::Accepted
 }
 
+// "It is live in every phase but Idle."
+fn live(t: Transfer, context: u32) -> bool
+    ensures { λ r. ⌜ r ≡ live t context ⌝ }
+{
+    let p = t.phase;
+    let n = record::phase_number(p);
+    !(n == 0) & (context == t.contexts)
+}
+
 pub fn judge_finish(t: Transfer, request: &[u8]) -> Verdict
     requires { ⌜ length (now request) ≡ 8 ⌝ }
     ensures { λ r. ⌜ r ≡ verdict (transferChecks t (finishOf (now (request .entry)))) ⌝ }
@@ -64,7 +74,7 @@ pub fn judge_finish(t: Transfer, request: &[u8]) -> Verdict
     let flag = base::byte(request, 0);
     let context = base::word(request, 4);
     let over = 1 < flag;
-    let dead = !(!(n == 0) & (context == t.contexts));
+    let dead = !live(t, context);
     let out_of_turn = !(n == 1);
     if over {
         return Verdict::Refused(Refusal::Status { status: 3, ext: 0 });
@@ -85,12 +95,12 @@ pub fn judge_query(t: Transfer, request: &[u8]) -> Verdict
     let p = t.phase;
     let n = record::phase_number(p);
     let context = base::word(request, 0);
-    let stale = !(!(n == 0) & (context == t.contexts));
+    let dead = !live(t, context);
     let receiving = n == 1;
     let verifying = n == 2;
     let failed = n == 4;
     let none = t.staged == 0;
-    if stale {
+    if dead {
         return Verdict::Refused(Refusal::Status { status: 7, ext: 1 });
     }
     if receiving {

@@ -4,7 +4,7 @@ use native.Mathlib.Nat.{sub-zero}
 use borrow.Author.Needs.{needs}
 use mathlib.Core.Path.{_≡_, refl, ap}
 use mathlib.Core.List.{_++_}
-use Prim.Native.Nat.{_≤_, _-_, _+_}
+use Prim.Native.Nat.{_≤_, _-_}
 use native.Mathlib.Omega.{arith}
 use lib.ListN.{length, take, length-set}
 use Rattle.rules.specs.Bytes.{le}

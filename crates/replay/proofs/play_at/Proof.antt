@@ -4,7 +4,7 @@ use Prim.Native.Nat.{_<_, _^_}
 use native.Mathlib.Omega.{arith}
 use lib.ListN.{length}
 use borrow.Author.Needs.{needs}
-use Rattle.reader.specs.declared.Found.the-variants.{Record, Short, End}
+use Rattle.reader.specs.declared.Found.the-variants.{Short, End}
 use Rattle.play.specs.Replayed.{moduleOf}
 use Rattle.replay.proofs.Found.{record-within, record-says, as-found, as-record, nothing-written}
 use Rattle.replay.proofs.play_at.Statement.{statement}

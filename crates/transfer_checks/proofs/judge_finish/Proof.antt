@@ -7,25 +7,26 @@ use Rattle.transfer_checks.proofs.judge_finish.Tie as tie
 
 returns : tie.Need-returns
 unfolding verdict
-returns c = simp (← c .before .before .before .before .phase-number .ensures, ← c .before .before .before .byte .ensures, ← c .before .before .word .ensures, c .if1 .taken)
+returns c = simp (← c .before .before .word .ensures, ← c .before .live .ensures) (simp (← c .before .before .before .before .phase-number .ensures, ← c .before .before .before .byte .ensures, c .if1 .taken))
 
 returns-2 : tie.Need-returns-2
 unfolding verdict
-returns-2 c = simp (← c .before .before .before .before .before .phase-number .ensures, ← c .before .before .before .before .byte .ensures, ← c .before .before .before .word .ensures, c .before .if1 .left, c .if2 .taken)
+returns-2 c = simp (← c .before .before .before .word .ensures, ← c .before .before .live .ensures) (simp (← c .before .before .before .before .byte .ensures, c .before .if1 .left, c .if2 .taken))
 
 returns-3 : tie.Need-returns-3
 unfolding verdict
-returns-3 c = simp (← c .before .before .before .before .before .before .phase-number .ensures, ← c .before .before .before .before .before .byte .ensures, ← c .before .before .before .before .word .ensures, c .before .before .if1 .left, c .before .if2 .left, c .if3 .taken)
+returns-3 c = simp (← c .before .before .before .before .word .ensures, ← c .before .before .before .live .ensures) (simp (← c .before .before .before .before .before .before .phase-number .ensures, ← c .before .before .before .before .before .byte .ensures, c .before .before .if1 .left, c .before .if2 .left, c .if3 .taken))
 
 returns-4 : tie.Need-returns-4
 unfolding verdict
-returns-4 c = simp (← c .before .before .before .before .before .before .phase-number .ensures, ← c .before .before .before .before .before .byte .ensures, ← c .before .before .before .before .word .ensures, c .before .before .if1 .left, c .before .if2 .left, c .if3 .left)
+returns-4 c = simp (← c .before .before .before .before .word .ensures, ← c .before .before .before .live .ensures) (simp (← c .before .before .before .before .before .before .phase-number .ensures, ← c .before .before .before .before .before .byte .ensures, c .before .before .if1 .left, c .before .if2 .left, c .if3 .left))
 
--- by search: phase-number-requires, byte-requires, word-requires
+-- by search: phase-number-requires, byte-requires, word-requires, live-requires
 pub judge-finish-spec : {M : Type 1} → statement M
 judge-finish-spec =
     tie.close
     (tie.spec
+    (λ c κs. search needs)
     (λ c κs. search needs)
     (λ c κs. search needs)
     (λ c κs. search needs)

@@ -5,42 +5,38 @@ use borrow.Author.Needs.{needs}
 use Rattle.transfer_checks.proofs.judge_query.Statement.{statement}
 use Rattle.transfer_checks.proofs.judge_query.Tie as tie
 
-phase-number-requires : tie.Need-phase-number-requires
-phase-number-requires c κs = search needs
-
-word-requires : tie.Need-word-requires
-word-requires c κs = search needs
-
 returns : tie.Need-returns
 unfolding verdict
-returns c = simp (← c .before .before .before .before .phase-number .ensures, ← c .before .before .before .word .ensures, c .if1 .taken)
+returns c = simp (← c .before .before .before .word .ensures, ← c .before .before .live .ensures) (simp (c .if1 .taken))
 
 returns-2 : tie.Need-returns-2
 unfolding verdict
-returns-2 c = simp (← c .before .before .before .before .before .phase-number .ensures, ← c .before .before .before .before .word .ensures, c .before .if1 .left, c .if2 .taken)
+returns-2 c = simp (← c .before .before .before .before .word .ensures, ← c .before .before .before .live .ensures) (simp (← c .before .before .before .before .before .phase-number .ensures, c .before .if1 .left, c .if2 .taken))
 
 returns-3 : tie.Need-returns-3
 unfolding verdict
-returns-3 c = simp (← c .before .before .before .before .before .before .phase-number .ensures, ← c .before .before .before .before .before .word .ensures, c .before .before .if1 .left, c .before .if2 .left, c .if3 .taken)
+returns-3 c = simp (← c .before .before .before .before .before .word .ensures, ← c .before .before .before .before .live .ensures) (simp (← c .before .before .before .before .before .before .phase-number .ensures, c .before .before .if1 .left, c .before .if2 .left, c .if3 .taken))
 
 returns-4 : tie.Need-returns-4
 unfolding verdict
-returns-4 c = simp (← c .before .before .before .before .before .before .before .phase-number .ensures, ← c .before .before .before .before .before .before .word .ensures, c .before .before .before .if1 .left, c .before .before .if2 .left, c .before .if3 .left, c .if4 .taken)
+returns-4 c = simp (← c .before .before .before .before .before .before .word .ensures, ← c .before .before .before .before .before .live .ensures) (simp (← c .before .before .before .before .before .before .before .phase-number .ensures, c .before .before .before .if1 .left, c .before .before .if2 .left, c .before .if3 .left, c .if4 .taken))
 
 returns-5 : tie.Need-returns-5
 unfolding verdict
-returns-5 c = simp (← c .before .before .before .before .before .before .before .before .phase-number .ensures, ← c .before .before .before .before .before .before .before .word .ensures, c .before .before .before .before .if1 .left, c .before .before .before .if2 .left, c .before .before .if3 .left, c .before .if4 .left, c .if5 .taken)
+returns-5 c = simp (← c .before .before .before .before .before .before .before .word .ensures, ← c .before .before .before .before .before .before .live .ensures) (simp (← c .before .before .before .before .before .before .before .before .phase-number .ensures, c .before .before .before .before .if1 .left, c .before .before .before .if2 .left, c .before .before .if3 .left, c .before .if4 .left, c .if5 .taken))
 
 returns-6 : tie.Need-returns-6
 unfolding verdict
-returns-6 c = simp (← c .before .before .before .before .before .before .before .before .phase-number .ensures, ← c .before .before .before .before .before .before .before .word .ensures, c .before .before .before .before .if1 .left, c .before .before .before .if2 .left, c .before .before .if3 .left, c .before .if4 .left, c .if5 .left)
+returns-6 c = simp (← c .before .before .before .before .before .before .before .word .ensures, ← c .before .before .before .before .before .before .live .ensures) (simp (← c .before .before .before .before .before .before .before .before .phase-number .ensures, c .before .before .before .before .if1 .left, c .before .before .before .if2 .left, c .before .before .if3 .left, c .before .if4 .left, c .if5 .left))
 
+-- by search: phase-number-requires, word-requires, live-requires
 pub judge-query-spec : {M : Type 1} → statement M
 judge-query-spec =
     tie.close
     (tie.spec
-    phase-number-requires
-    word-requires
+    (λ c κs. search needs)
+    (λ c κs. search needs)
+    (λ c κs. search needs)
     returns
     returns-2
     returns-3

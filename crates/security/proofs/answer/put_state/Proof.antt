@@ -5,16 +5,16 @@ use Rattle.security.proofs.answer.put_state.Statement.{statement}
 use Rattle.security.proofs.answer.put_state.Tie as tie
 
 returns : tie.Need-returns
-returns c = simp (c .before .before .before .before .before .before .before .before .state-byte .ensures, c .before .before .before .before .before .before .before .wide .ensures, c .before .before .before .before .before .before .put-at .ensures, c .before .before .copy .ensures)
+returns c = simp (c .before .before .before .before .before .before .before .state-byte .ensures, c .before .before .before .before .before .before .put-at .ensures, c .before .before .copy .ensures)
 
--- by search: slice-aggregate-put-at, state-byte-requires, wide-requires, put-at-requires, slice-aggregate-copy, copy-requires, same-length
+-- by search: slice-aggregate-put-at, state-byte-requires, cast-put-at, put-at-requires, slice-aggregate-copy, copy-requires, same-length
 pub put-state-spec : {M : Type 1} → statement M
 put-state-spec =
     tie.close
     (tie.spec
     (λ c. search needs)
     (λ c κs. search needs)
-    (λ c κs. search needs)
+    (λ c. search needs)
     (λ c κs. search needs)
     (λ c. search needs)
     (λ c κs. search needs)
