@@ -59,8 +59,8 @@ pub fn judge_unlock(s: Security, given: &[u8]) -> Verdict
 pub fn judge_freeze(s: Security) -> Verdict
     ensures { λ r. ⌜ r ≡ verdict (frozenOrLimitCheck s ∷ []) ⌝ }
 {
-    let frozen = s.frozen | (s.attempts == 10);
-    if frozen {
+    let barred = s.frozen | (s.attempts == 10);
+    if barred {
         return Verdict::Refused(Refusal::Status { status: 10, ext: 0 });
     }
     Verdict::Accepted
