@@ -1,13 +1,17 @@
 // The fuller trace that layouts are compared by: for each record of a log a line with the answer's bytes in hex, then every field of the device record and the
 // whole staging area. `-` is standard input. It promises no text; its lines are compared with an independent program's.
-ghost use Prim.Native.Nat.{_+_, _≤_};
+ghost use Prim.Native.Nat.{_+_, _*_, _≤_};
 ghost use mathlib.Core.Path.{_≡_};
 ghost use lib.ListN.{length};
 use files::Filled;
 use libc::STDIN_FILENO;
-use reader::Found;
+use module::Outcome;
 use rules::Device;
 use rules::Entry;
+use rules::Phase;
+use rules::Security;
+use rules::Thresholds;
+use rules::Transfer;
 
 // The hex digit of the lower four bits.
 fn hex_digit(n: u8) -> u8 {
@@ -18,54 +22,51 @@ fn hex_digit(n: u8) -> u8 {
     87 + digit
 }
 
-// One byte, if there is room.
-fn put_byte(out: &mut [u8], at: usize, b: u8) -> usize {
-    if at < out.len() {
-        out[at] = b;
-        return at + 1;
-    }
-    at
+fn put_digit(out: &mut [u8], at: usize, n: u8) -> usize
+    requires { ⌜ at + 1 ≤ length (now out) ⌝ }
+    ensures { λ r. ⌜ r ≡ at + 1 ⌝ }
+{
+    out[at] = hex_digit(n);
+    at + 1
 }
 
-// The bytes in lower-case hex, as far as there is room.
-fn put_hex(out: &mut [u8], at: usize, bytes: &[u8]) -> usize {
+// The first `count` bytes in lower-case hex; nothing if there are not so many.
+fn put_hex(out: &mut [u8], at: usize, bytes: &[u8], count: usize) -> usize
+    requires { ⌜ at + 2 * length (now bytes) ≤ length (now out) ⌝ }
+    ensures { λ r. ⌜ r ≤ at + 2 * length (now (bytes .entry)) ⌝ }
+{
+    if bytes.len() < count {
+        return at;
+    }
     let mut to = at;
     let mut i = 0;
-    while i < bytes.len() {
+    while i < count {
         let b = bytes[i];
-        to = put_byte(out, to, hex_digit(b / 16));
-        to = put_byte(out, to, hex_digit(b));
+        to = put_digit(out, to, b / 16);
+        to = put_digit(out, to, b);
         i += 1;
     }
     to
 }
 
-// A line of a record that is no call.
-fn show_word(number: u64, word: &[u8]) -> bool
-    requires { ⌜ length (now word) ≤ 16 ⌝ }
-{
-    let mut line = [0u8; 64];
-    let end = text::put_field(&mut line, 0, number, word);
-    files::show(&line, end)
-}
-
 // The line of a call: the answer's bytes, of which there are `size`.
-fn show_answer(number: u64, answer: &[u8; 64], size: usize) -> bool {
-    let mut line = [0u8; 256];
-    let at = text::put_field(&mut line, 0, number, b" call ");
-    if 64 < size {
-        return false;
-    }
-    let end = put_front_hex(&mut line, at, answer, size);
-    files::show(&line, end)
+fn put_answer(out: &mut [u8], at: usize, number: u64, answer: &[u8; 64], size: usize) -> usize
+    requires { ⌜ at + 160 ≤ length (now out) ⌝ }
+    ensures { λ r. ⌜ r ≤ at + 160 ⌝ }
+{
+    let named = text::put_field(out, at, number, b" call ");
+    let end = put_hex(out, named, answer, size);
+    text::put(out, end, b"\n")
 }
 
-fn put_front_hex(out: &mut [u8], at: usize, bytes: &[u8], size: usize) -> usize {
-    if bytes.len() < size {
-        return at;
+// The line of a tail that is no whole record, if there is one.
+fn show_tail(number: u64, short: bool) -> bool {
+    if !short {
+        return true;
     }
-    let end = put_hex(out, at, &bytes[..size]);
-    put_byte(out, end, b'\n')
+    let mut line = [0u8; 64];
+    let end = text::put_field(&mut line, 0, number, b" short\n");
+    files::show(&line, end)
 }
 
 // A field of the record: its name and its number.
@@ -80,11 +81,12 @@ fn show_number(name: &[u8], n: u64) -> bool
 
 fn show_bytes(name: &[u8], bytes: &[u8]) -> bool
     requires { ⌜ length (now name) ≤ 16 ⌝ }
+    requires { ⌜ length (now bytes) ≤ 16384 ⌝ }
 {
     let mut line = [0u8; 32800];
     let at = text::put(&mut line, 0, name);
-    let end = put_hex(&mut line, at, bytes);
-    let end = put_byte(&mut line, end, b'\n');
+    let end = put_hex(&mut line, at, bytes, bytes.len());
+    let end = text::put(&mut line, end, b"\n");
     files::show(&line, end)
 }
 
@@ -95,121 +97,151 @@ fn bit(on: bool) -> u64 {
     0
 }
 
-fn show_transfer(d: Device) -> bool {
-    let transfer = d.transfer;
-    let phase = transfer.phase;
+fn show_phase(phase: Phase) -> bool {
     let mut line = [0u8; 64];
     let at = text::put(&mut line, 0, b"phase ");
     let end = text::put_phase(&mut line, at, phase);
-    let end = put_byte(&mut line, end, b'\n');
+    let end = text::put(&mut line, end, b"\n");
     files::show(&line, end)
-        & show_number(b"contexts ", transfer.contexts as u64)
-        & show_number(b"received ", transfer.received as u64)
-        & show_number(b"ticks ", transfer.ticks as u64)
-        & show_number(b"running ", transfer.running)
-        & show_number(b"staged ", transfer.staged)
 }
 
-fn show_thresholds(d: Device) -> bool {
-    let thresholds = d.thresholds;
+fn show_transfer(transfer: Transfer) -> bool {
+    let phase = transfer.phase;
+    show_phase(phase)
+        && show_number(b"contexts ", transfer.contexts as u64)
+        && show_number(b"received ", transfer.received as u64)
+        && show_number(b"ticks ", transfer.ticks as u64)
+        && show_number(b"running ", transfer.running)
+        && show_number(b"staged ", transfer.staged)
+}
+
+fn show_thresholds(thresholds: Thresholds) -> bool {
     show_number(b"enable ", thresholds.enable as u64)
-        & show_number(b"spare ", thresholds.spare as u64)
-        & show_number(b"media ", thresholds.media as u64)
-        & show_number(b"controller ", thresholds.controller as u64)
+        && show_number(b"spare ", thresholds.spare as u64)
+        && show_number(b"media ", thresholds.media as u64)
+        && show_number(b"controller ", thresholds.controller as u64)
 }
 
-fn show_security(d: Device) -> bool {
-    let security = d.security;
+fn show_security(security: Security) -> bool {
     show_number(b"enabled ", bit(security.enabled))
-        & show_number(b"locked ", bit(security.locked))
-        & show_number(b"frozen ", bit(security.frozen))
-        & show_number(b"attempts ", base::wide(security.attempts))
-        & show_bytes(b"passphrase ", &d.security.passphrase)
+        && show_number(b"locked ", bit(security.locked))
+        && show_number(b"frozen ", bit(security.frozen))
+        && show_number(b"attempts ", base::wide(security.attempts))
+        && show_bytes(b"passphrase ", &security.passphrase)
 }
 
-// What a record says is played on the module and its line written; the answer buffer comes as zeros.
-fn answer_entry(number: u64, d: Device, area: &mut [u8], entry: Entry, record: &[u8]) -> Device {
+// What follows the records' lines, up to the first that cannot be written.
+fn show_end(number: u64, short: bool, d: Device, area: &[u8; 16384]) -> bool {
+    show_tail(number, short)
+        && show_transfer(d.transfer)
+        && show_thresholds(d.thresholds)
+        && show_security(d.security)
+        && show_bytes(b"area ", area)
+}
+
+// The place after what was written, and the record after what was played.
+pub struct Answered {
+    pub at: usize,
+    pub device: Device,
+}
+
+// What a step of the module gives, beside the place after its line.
+fn played(at: usize, outcome: Outcome) -> Answered
+    ensures { λ r. ⌜ r .at ≡ at ⌝ }
+{
+    let device = outcome.device;
+    Answered { at, device }
+}
+
+// The answer buffer comes as zeros.
+fn answer_call(
+    out: &mut [u8],
+    at: usize,
+    number: u64,
+    d: Device,
+    area: &mut [u8],
+    revision: u16,
+    function: u16,
+    request: &[u8],
+) -> Answered
+    requires { ⌜ at + 160 ≤ length (now out) ⌝ }
+    ensures { λ r. ⌜ r .at ≤ at + 160 ⌝ }
+{
+    let mut answer = [0u8; 64];
+    let v = revision as u64;
+    let f = function as u64;
+    let outcome = module::call(d, area, v, f, request, &mut answer);
+    let reply = outcome.reply;
+    let at = put_answer(out, at, number, &answer, reply.length);
+    played(at, outcome)
+}
+
+// A record is played on the module, and its line is written.
+fn answer_record(
+    out: &mut [u8],
+    at: usize,
+    number: u64,
+    d: Device,
+    area: &mut [u8],
+    record: &[u8],
+) -> Answered
+    requires { ⌜ at + 160 ≤ length (now out) ⌝ }
+    ensures { λ r. ⌜ r .at ≤ at + 160 ⌝ }
+{
+    let entry = log::decode(record);
     match entry {
         Entry::Call {
             host: _,
-            revision,
-            function,
+            revision: v,
+            function: f,
             length,
         } => {
-            let mut answer = [0u8; 64];
-            let v = revision as u64;
-            let f = function as u64;
             let end = 8 + length as usize;
             if record.len() < end {
-                return d;
+                return Answered { at, device: d };
             }
-            let outcome = module::call(d, area, v, f, &record[8..end], &mut answer);
-            let device = outcome.device;
-            let reply = outcome.reply;
-            let size = reply.length;
-            show_answer(number, &answer, size);
-            device
+            answer_call(out, at, number, d, area, v, f, &record[8..end])
         }
         Entry::Tick => {
-            show_word(number, b" tick\n");
-            let outcome = module::tick(d, area);
-            outcome.device
+            let at = text::put_field(out, at, number, b" tick\n");
+            played(at, module::tick(d, area))
         }
         Entry::Power => {
-            show_word(number, b" power\n");
-            let outcome = module::power(d, area);
-            outcome.device
+            let at = text::put_field(out, at, number, b" power\n");
+            played(at, module::power(d, area))
         }
         Entry::Bad => {
-            show_word(number, b" bad\n");
-            d
+            let at = text::put_field(out, at, number, b" bad\n");
+            Answered { at, device: d }
         }
     }
 }
 
-// What the reader finds at a place: a record. What follows the records is told at the end of the log.
-fn answer_at(number: u64, d: Device, area: &mut [u8], log: &[u8], place: usize) -> Device
-    requires { ⌜ place ≤ 120 ⌝ }
-{
-    let stood = reader::read_at(log, place);
-    let found = stood.found;
-    match found {
-        Found::Record(entry) => {
-            let start = place * 544;
-            let end = start + 544;
-            if log.len() < end {
-                return d;
-            }
-            answer_entry(number, d, area, entry, &log[start..end])
-        }
-        Found::Short => d,
-        Found::End => d,
-    }
-}
-
-// The records of the front of a buffer.
-fn answer_part(buf: &[u8], have: usize, number: u64, d: Device, area: &mut [u8]) -> Device
-    requires { ⌜ have ≤ 65280 ⌝ }
+// The lines of the front of a buffer, of at most 120 records.
+fn answer_part(
+    out: &mut [u8],
+    buf: &[u8],
+    have: usize,
+    number: u64,
+    d: Device,
+    area: &mut [u8],
+) -> Answered
+    requires { ⌜ (have ≤ 65280) × (have ≤ length (now buf)) ⌝ }
     requires { ⌜ number ≤ 9000000000000000000 ⌝ }
+    requires { ⌜ 19200 ≤ length (now out) ⌝ }
 {
     let count = have / 544;
-    let mut device = d;
+    let mut answered = Answered { at: 0, device: d };
     let mut j = 0;
     while j < count {
-        device = answer_at(number + j as u64, device, area, buf, j);
+        let at = answered.at;
+        let device = answered.device;
+        let start = j * 544;
+        let end = start + 544;
+        answered = answer_record(out, at, number + j as u64, device, area, &buf[start..end]);
         j += 1;
     }
-    device
-}
-
-fn show_end(number: u64, short: bool, d: Device, area: &[u8]) {
-    if short {
-        show_word(number, b" short\n");
-    }
-    show_transfer(d);
-    show_thresholds(d);
-    show_security(d);
-    show_bytes(b"area ", area);
+    answered
 }
 
 // Where a log stands: whether there is more of it, the number of the next record, and the device record.
@@ -219,12 +251,14 @@ pub struct Turn {
     pub device: Device,
 }
 
+// What was read of a log is answered; what is less than a whole buffer ends it. A log that stops being readable has no end state.
 fn answer_filled(
     name: &[u8],
     filled: Filled,
     number: u64,
     d: Device,
     buf: &[u8; 65280],
+    out: &mut [u8; 19200],
     area: &mut [u8; 16384],
 ) -> Turn
     requires { ⌜ filled .have ≤ 65280 ⌝ }
@@ -232,36 +266,43 @@ fn answer_filled(
     ensures { λ r. ⌜ r .number ≤ number + 120 ⌝ }
 {
     let have = filled.have;
-    let failed = filled.failed;
-    let device = answer_part(buf, have, number, d, area);
+    let answered = answer_part(out, buf, have, number, d, area);
+    let device = answered.device;
+    let at = answered.at;
+    let written = files::show(out, at);
     let number = number + (have / 544) as u64;
-    let last = Turn {
-        more: false,
-        number,
-        device,
-    };
-    if failed {
-        os::fail(name);
-        return last;
-    }
-    if have < 65280 {
-        show_end(number, have % 544 != 0, device, area);
-        return last;
+    let whole = have == 65280;
+    if written & !whole {
+        end_log(name, filled, number, device, area);
     }
     Turn {
-        more: true,
+        more: written & whole,
         number,
         device,
     }
 }
 
-fn answer_log(fd: i32, name: &[u8], buf: &mut [u8; 65280], area: &mut [u8; 16384]) {
-    let first = files::fill(fd, buf);
-    if first.failed & (first.have == 0) {
+fn end_log(name: &[u8], filled: Filled, number: u64, d: Device, area: &[u8; 16384]) {
+    if filled.failed {
         os::fail(name);
         return;
     }
-    let mut turn = answer_filled(name, first, 0, module::fresh(), buf, area);
+    show_end(number, filled.have % 544 != 0, d, area);
+}
+
+// One log, part by part, so that memory does not grow with it.
+fn answer_log(
+    fd: i32,
+    name: &[u8],
+    buf: &mut [u8; 65280],
+    out: &mut [u8; 19200],
+    area: &mut [u8; 16384],
+) {
+    let mut turn = Turn {
+        more: true,
+        number: 0,
+        device: module::fresh(),
+    };
     let mut turns: u64 = 72057594037927936;
     while turns > 0 {
         if !turn.more {
@@ -270,15 +311,15 @@ fn answer_log(fd: i32, name: &[u8], buf: &mut [u8; 65280], area: &mut [u8; 16384
         let filled = files::fill(fd, buf);
         let number = turn.number;
         let device = turn.device;
-        turn = answer_filled(name, filled, number, device, buf, area);
+        turn = answer_filled(name, filled, number, device, buf, out, area);
         turns -= 1;
     }
 }
 
-fn answer_named(name: &[u8], buf: &mut [u8; 65280]) {
+fn answer_named(name: &[u8], buf: &mut [u8; 65280], out: &mut [u8; 19200]) {
     let mut area = [0u8; 16384];
     if base::same(name, b"-") {
-        answer_log(STDIN_FILENO, name, buf, &mut area);
+        answer_log(STDIN_FILENO, name, buf, out, &mut area);
         return;
     }
     let fd = os::open_read(name);
@@ -286,19 +327,20 @@ fn answer_named(name: &[u8], buf: &mut [u8; 65280]) {
         os::fail(name);
         return;
     }
-    answer_log(fd, name, buf, &mut area);
+    answer_log(fd, name, buf, out, &mut area);
     libc::close(fd);
 }
 
 fn main() {
     let mut buf = [0u8; 65280];
+    let mut out = [0u8; 19200];
     let mut name = io::buffer();
     let count = os::arg_count();
     let mut i = 1;
     while i < count {
         let size = os::arg(i, &mut name);
         if os::errno() == 0 {
-            answer_named(&name[..size], &mut buf);
+            answer_named(&name[..size], &mut buf, &mut out);
         } else {
             os::fail(b"argument");
         }

@@ -1,19 +1,21 @@
--- `answers::answer_part` meets its contract. The loop goes over the places of the records in the front.
+-- `answers::answer_part` meets its contract. The loop goes over the records of the front, and each line takes at most 160 bytes.
 -- Assumes nothing.
 use mathlib.Core.Path.{_≡_}
-use Prim.Native.Nat.{_≤_, _-_, _/_}
+use Prim.Native.Nat.{_*_, _≤_, _-_, _/_}
 use lib.ListN.{length}
 use borrow.Author.Needs.{needs}
 use Rattle.answers.proofs.answer_part.Statement.{statement}
 use Rattle.answers.proofs.answer_part.Tie as tie
 
 abbrev Inv-loop : tie.InvT-loop
-Inv-loop buf have number area₀ count device₀ j₀ area device j = (count ≡ have / 544) × (j ≤ count) × (length area ≡ length area₀)
+Inv-loop out₀ buf have number area₀ count answered₀ j₀ out area answered j =
+    (count ≡ have / 544) × (j ≤ count) × (answered .at ≤ j * 160) × (length out ≡ length out₀) × (length area ≡ length area₀)
 
 abbrev μ-loop : tie.MeasureT-loop
-μ-loop buf have number area₀ count device₀ j₀ area device j = count - j
+μ-loop out₀ buf have number area₀ count answered₀ j₀ out area answered j = count - j
 
--- what the search closes: the count of places, the next number, and the area's length
+-- by search: loop-holds, mul-start, add-end, add-answer-record, sub-answer-record, part-answer-record-start, part-answer-record-end,
+-- answer-record-requires, add-j, loop-less, loop-again, same-length, same-length-2, returns
 pub answer-part-spec : {M : Type 1} → statement M
 answer-part-spec =
     tie.close
@@ -22,7 +24,13 @@ answer-part-spec =
     μ-loop
     (λ c. search needs)
     (λ c. search needs)
+    (λ c. search needs)
+    (λ c. search needs)
+    (λ c. search needs)
+    (λ c. search needs)
+    (λ c. search needs)
     (λ c κs. search needs)
+    (λ c. search needs)
     (λ c. search needs)
     (λ c. search needs)
     (λ c. search needs)

@@ -8,10 +8,10 @@ use Rattle.answers.proofs.main.Statement.{statement}
 use Rattle.answers.proofs.main.Tie as tie
 
 abbrev Inv-loop : tie.InvT-loop
-Inv-loop buf₀ name₀ count i₀ t6 buf name i = 4096 ≡ length name
+Inv-loop buf₀ out₀ name₀ count i₀ t7 buf out name i = 4096 ≡ length name
 
 abbrev μ-loop : tie.MeasureT-loop
-μ-loop buf₀ name₀ count i₀ t6 buf name i = count - i
+μ-loop buf₀ out₀ name₀ count i₀ t7 buf out name i = count - i
 
 -- by search: buffer-requires, arg-count-requires, loop-holds, slice-aggregate-arg, arg-requires, errno-requires, array-share-prefix-name,
 -- slice-aggregate-answer-named, answer-named-requires, slice-aggregate-fail, fail-requires, add-i, loop-less, loop-again, returns
