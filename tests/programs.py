@@ -71,16 +71,20 @@ def runner():
     return words + [str(lib / "ld-linux-x86-64.so.2"), "--library-path", str(lib)]
 
 
+def stale(path):
+    """Whether something under crates/ is newer than what was built of it."""
+    sources = [ROOT / "crates.txt", *(ROOT / "crates").rglob("*")]
+    return max(source.stat().st_mtime for source in sources if source.exists()) > path.stat().st_mtime
+
+
 def proved(name, folder=None):
     """The command of the proved program of a text, from target/bin or another folder."""
     crate = PROGRAMS[name]
     path = pathlib.Path(folder or ROOT / "target" / "bin") / crate
     if not path.is_file():
         raise Unready(f"{path} is not there: 'rt check {crate}' builds it")
-    if folder is None:
-        sources = [ROOT / "crates.txt", *(ROOT / "crates").rglob("*")]
-        if max(source.stat().st_mtime for source in sources if source.exists()) > path.stat().st_mtime:
-            print(f"note: something under crates/ is newer than {path}; 'rt check {crate}' builds it again", file=sys.stderr)
+    if folder is None and stale(path):
+        print(f"note: something under crates/ is newer than {path}; 'rt check {crate}' builds it again", file=sys.stderr)
     return runner() + [str(path)]
 
 
