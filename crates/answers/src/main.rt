@@ -4,6 +4,9 @@ ghost use Prim.Native.Nat.{_+_, _*_, _≤_};
 ghost use mathlib.Core.Path.{_≡_};
 ghost use lib.ListN.{length};
 use files::Filled;
+use files::PART;
+use files::RECORD;
+use files::TURNS;
 use libc::STDIN_FILENO;
 use module::Outcome;
 use rules::Device;
@@ -12,6 +15,21 @@ use rules::Phase;
 use rules::Security;
 use rules::Thresholds;
 use rules::Transfer;
+
+// The staging area, in bytes.
+const AREA: usize = 16384;
+
+// The answer buffer, in bytes: the shortest that a call takes.
+const ANSWER: usize = 64;
+
+// The text of a part: 120 lines of at most 160 bytes, each a number of at most 20 digits, a word, the answer in hex and the line's end.
+const TEXT: usize = 19200;
+
+// A line of the end state with a name of at most 16 bytes and a number of at most 20 digits.
+const LINE: usize = 64;
+
+// A line of the end state with bytes, the longest of which is the area's: two digits for each byte of it, its name and the line's end.
+const BYTES: usize = 32800;
 
 // The hex digit of the lower four bits.
 fn hex_digit(n: u8) -> u8 {
@@ -50,7 +68,7 @@ fn put_hex(out: &mut [u8], at: usize, bytes: &[u8], count: usize) -> usize
 }
 
 // The line of a call: the answer's bytes, of which there are `size`.
-fn put_answer(out: &mut [u8], at: usize, number: u64, answer: &[u8; 64], size: usize) -> usize
+fn put_answer(out: &mut [u8], at: usize, number: u64, answer: &[u8; ANSWER], size: usize) -> usize
     requires { ⌜ at + 160 ≤ length (now out) ⌝ }
     ensures { λ r. ⌜ r ≤ at + 160 ⌝ }
 {
@@ -64,7 +82,7 @@ fn show_tail(number: u64, short: bool) -> bool {
     if !short {
         return true;
     }
-    let mut line = [0u8; 64];
+    let mut line = [0u8; LINE];
     let end = text::put_field(&mut line, 0, number, b" short\n");
     files::show(&line, end)
 }
@@ -73,7 +91,7 @@ fn show_tail(number: u64, short: bool) -> bool {
 fn show_number(name: &[u8], n: u64) -> bool
     requires { ⌜ length (now name) ≤ 16 ⌝ }
 {
-    let mut line = [0u8; 64];
+    let mut line = [0u8; LINE];
     let at = text::put(&mut line, 0, name);
     let end = text::put_field(&mut line, at, n, b"\n");
     files::show(&line, end)
@@ -83,7 +101,7 @@ fn show_bytes(name: &[u8], bytes: &[u8]) -> bool
     requires { ⌜ length (now name) ≤ 16 ⌝ }
     requires { ⌜ length (now bytes) ≤ 16384 ⌝ }
 {
-    let mut line = [0u8; 32800];
+    let mut line = [0u8; BYTES];
     let at = text::put(&mut line, 0, name);
     let end = put_hex(&mut line, at, bytes, bytes.len());
     let end = text::put(&mut line, end, b"\n");
@@ -98,7 +116,7 @@ fn bit(on: bool) -> u64 {
 }
 
 fn show_phase(phase: Phase) -> bool {
-    let mut line = [0u8; 64];
+    let mut line = [0u8; LINE];
     let at = text::put(&mut line, 0, b"phase ");
     let end = text::put_phase(&mut line, at, phase);
     let end = text::put(&mut line, end, b"\n");
@@ -131,7 +149,7 @@ fn show_security(security: Security) -> bool {
 }
 
 // What follows the records' lines, up to the first that cannot be written.
-fn show_end(number: u64, short: bool, d: Device, area: &[u8; 16384]) -> bool {
+fn show_end(number: u64, short: bool, d: Device, area: &[u8; AREA]) -> bool {
     show_tail(number, short)
         && show_transfer(d.transfer)
         && show_thresholds(d.thresholds)
@@ -167,7 +185,7 @@ fn answer_call(
     requires { ⌜ at + 160 ≤ length (now out) ⌝ }
     ensures { λ r. ⌜ r .at ≤ at + 160 ⌝ }
 {
-    let mut answer = [0u8; 64];
+    let mut answer = [0u8; ANSWER];
     let v = revision as u64;
     let f = function as u64;
     let outcome = module::call(d, area, v, f, request, &mut answer);
@@ -230,14 +248,14 @@ fn answer_part(
     requires { ⌜ number ≤ 9000000000000000000 ⌝ }
     requires { ⌜ 19200 ≤ length (now out) ⌝ }
 {
-    let count = have / 544;
+    let count = have / RECORD;
     let mut answered = Answered { at: 0, device: d };
     let mut j = 0;
     while j < count {
         let at = answered.at;
         let device = answered.device;
-        let start = j * 544;
-        let end = start + 544;
+        let start = j * RECORD;
+        let end = start + RECORD;
         answered = answer_record(out, at, number + j as u64, device, area, &buf[start..end]);
         j += 1;
     }
@@ -257,9 +275,9 @@ fn answer_filled(
     filled: Filled,
     number: u64,
     d: Device,
-    buf: &[u8; 65280],
-    out: &mut [u8; 19200],
-    area: &mut [u8; 16384],
+    buf: &[u8; PART],
+    out: &mut [u8; TEXT],
+    area: &mut [u8; AREA],
 ) -> Turn
     requires { ⌜ filled .have ≤ 65280 ⌝ }
     requires { ⌜ number ≤ 9000000000000000000 ⌝ }
@@ -270,8 +288,8 @@ fn answer_filled(
     let device = answered.device;
     let at = answered.at;
     let written = files::show(out, at);
-    let number = number + (have / 544) as u64;
-    let whole = have == 65280;
+    let number = number + (have / RECORD) as u64;
+    let whole = have == PART;
     if written & !whole {
         end_log(name, filled, number, device, area);
     }
@@ -282,28 +300,28 @@ fn answer_filled(
     }
 }
 
-fn end_log(name: &[u8], filled: Filled, number: u64, d: Device, area: &[u8; 16384]) {
+fn end_log(name: &[u8], filled: Filled, number: u64, d: Device, area: &[u8; AREA]) {
     if filled.failed {
         os::fail(name);
         return;
     }
-    show_end(number, filled.have % 544 != 0, d, area);
+    show_end(number, filled.have % RECORD != 0, d, area);
 }
 
 // One log, part by part, so that memory does not grow with it.
 fn answer_log(
     fd: i32,
     name: &[u8],
-    buf: &mut [u8; 65280],
-    out: &mut [u8; 19200],
-    area: &mut [u8; 16384],
+    buf: &mut [u8; PART],
+    out: &mut [u8; TEXT],
+    area: &mut [u8; AREA],
 ) {
     let mut turn = Turn {
         more: true,
         number: 0,
         device: module::fresh(),
     };
-    let mut turns: u64 = 72057594037927936;
+    let mut turns: u64 = TURNS;
     while turns > 0 {
         if !turn.more {
             return;
@@ -316,8 +334,8 @@ fn answer_log(
     }
 }
 
-fn answer_named(name: &[u8], buf: &mut [u8; 65280], out: &mut [u8; 19200]) {
-    let mut area = [0u8; 16384];
+fn answer_named(name: &[u8], buf: &mut [u8; PART], out: &mut [u8; TEXT]) {
+    let mut area = [0u8; AREA];
     if base::same(name, b"-") {
         answer_log(STDIN_FILENO, name, buf, out, &mut area);
         return;
@@ -332,8 +350,8 @@ fn answer_named(name: &[u8], buf: &mut [u8; 65280], out: &mut [u8; 19200]) {
 }
 
 fn main() {
-    let mut buf = [0u8; 65280];
-    let mut out = [0u8; 19200];
+    let mut buf = [0u8; PART];
+    let mut out = [0u8; TEXT];
     let mut name = io::buffer();
     let count = os::arg_count();
     let mut i = 1;

@@ -3,6 +3,16 @@ ghost use Prim.Native.Nat.{_≤_};
 ghost use lib.ListN.{length};
 use libc::STDOUT_FILENO;
 
+// A record of a log, in bytes.
+pub const RECORD: usize = 544;
+
+// The buffer that a log is read into part by part: 120 records, as many whole ones as 65,536 bytes hold.
+pub const PART: usize = 65280;
+
+// The most parts of a log that are read, 2 to the 56th. A loop has to end, and no log is so long; the records' numbers stay below 9,000,000,000,000,000,000, the
+// bound in the programs' contracts, and so in 64 bits.
+pub const TURNS: u64 = 72057594037927936;
+
 // How much of a buffer was filled, and whether reading failed there.
 pub struct Filled {
     pub have: usize,

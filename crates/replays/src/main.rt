@@ -4,17 +4,29 @@ ghost use Prim.Native.Nat.{_+_, _≤_};
 ghost use mathlib.Core.Path.{_≡_};
 ghost use lib.ListN.{length};
 use files::Filled;
+use files::PART;
+use files::RECORD;
+use files::TURNS;
 use libc::STDIN_FILENO;
 use play::Played;
 use rules::Device;
 
-fn show_heading(out: &mut [u8; 12288]) -> bool {
+// The staging area, in bytes.
+const AREA: usize = 16384;
+
+// The answer buffer, in bytes: the shortest that a call takes.
+const ANSWER: usize = 64;
+
+// The text of a part: 120 lines of at most 96 bytes, in whole pages of 4,096.
+const TEXT: usize = 12288;
+
+fn show_heading(out: &mut [u8; TEXT]) -> bool {
     let end = lines::put_heading(out, 0);
     files::show(out, end)
 }
 
 // The line of a short tail, if there is one, and the last line.
-fn show_end(out: &mut [u8; 12288], number: u64, short: bool, d: Device) {
+fn show_end(out: &mut [u8; TEXT], number: u64, short: bool, d: Device) {
     if short {
         let tail = lines::put_tail(out, 0, number);
         let end = lines::put_last(out, tail, d);
@@ -55,10 +67,10 @@ fn replay_filled(
     filled: Filled,
     number: u64,
     d: Device,
-    buf: &[u8; 65280],
-    out: &mut [u8; 12288],
-    area: &mut [u8; 16384],
-    answer: &mut [u8; 64],
+    buf: &[u8; PART],
+    out: &mut [u8; TEXT],
+    area: &mut [u8; AREA],
+    answer: &mut [u8; ANSWER],
 ) -> Turn
     requires { ⌜ filled .have ≤ 65280 ⌝ }
     requires { ⌜ number ≤ 9000000000000000000 ⌝ }
@@ -70,7 +82,7 @@ fn replay_filled(
     let device = played.device;
     let at = played.at;
     let written = files::show(out, at);
-    let number = number + (have / 544) as u64;
+    let number = number + (have / RECORD) as u64;
     let last = Turn {
         more: false,
         number,
@@ -83,8 +95,8 @@ fn replay_filled(
         os::fail(name);
         return last;
     }
-    if have < 65280 {
-        show_end(out, number, have % 544 != 0, device);
+    if have < PART {
+        show_end(out, number, have % RECORD != 0, device);
         return last;
     }
     Turn {
@@ -98,10 +110,10 @@ fn replay_filled(
 fn replay_log(
     fd: i32,
     name: &[u8],
-    buf: &mut [u8; 65280],
-    out: &mut [u8; 12288],
-    area: &mut [u8; 16384],
-    answer: &mut [u8; 64],
+    buf: &mut [u8; PART],
+    out: &mut [u8; TEXT],
+    area: &mut [u8; AREA],
+    answer: &mut [u8; ANSWER],
 ) {
     let first = files::fill(fd, buf);
     if first.failed & (first.have == 0) {
@@ -112,7 +124,7 @@ fn replay_log(
         return;
     }
     let mut turn = replay_filled(name, first, 0, module::fresh(), buf, out, area, answer);
-    let mut turns: u64 = 72057594037927936;
+    let mut turns: u64 = TURNS;
     while turns > 0 {
         if !turn.more {
             return;
@@ -125,9 +137,9 @@ fn replay_log(
     }
 }
 
-fn replay_named(name: &[u8], buf: &mut [u8; 65280], out: &mut [u8; 12288]) {
-    let mut area = [0u8; 16384];
-    let mut answer = [0u8; 64];
+fn replay_named(name: &[u8], buf: &mut [u8; PART], out: &mut [u8; TEXT]) {
+    let mut area = [0u8; AREA];
+    let mut answer = [0u8; ANSWER];
     if base::same(name, b"-") {
         replay_log(STDIN_FILENO, name, buf, out, &mut area, &mut answer);
         return;
@@ -142,8 +154,8 @@ fn replay_named(name: &[u8], buf: &mut [u8; 65280], out: &mut [u8; 12288]) {
 }
 
 fn main() {
-    let mut buf = [0u8; 65280];
-    let mut out = [0u8; 12288];
+    let mut buf = [0u8; PART];
+    let mut out = [0u8; TEXT];
     let mut name = io::buffer();
     let count = os::arg_count();
     let mut i = 1;

@@ -13,6 +13,12 @@ use rules::Refusal;
 use rules::Transfer;
 use rules::Verdict;
 
+// The staging area, in bytes.
+const AREA: usize = 16384;
+
+// A record of a log, in bytes.
+const RECORD: usize = 544;
+
 fn print(text: &[u8]) {
     io::write_all(1, text);
 }
@@ -145,8 +151,8 @@ fn walk_log() {
     log[1] = 1;
     log[2] = 2;
     log[4] = 13;
-    log[544] = 2;
-    log[1088] = 9;
+    log[RECORD] = 2;
+    log[2 * RECORD] = 9;
     let first = first_of(&log);
     let found = first.found;
     print_found(0, found);
@@ -156,7 +162,7 @@ fn walk_log() {
 
 // Two ticks left, one, none; an area that is too short; a record that is not possible.
 fn tick_records() {
-    let area = [0u8; 16384];
+    let area = [0u8; AREA];
     let d = print_tick(verifying(2), &area);
     let e = print_tick(d, &area);
     print_tick(e, &area);
