@@ -71,9 +71,19 @@ def runner():
     return words + [str(lib / "ld-linux-x86-64.so.2"), "--library-path", str(lib)]
 
 
-def stale(path):
-    """Whether something under crates/ is newer than what was built of it."""
-    sources = [ROOT / "crates.txt", *(ROOT / "crates").rglob("*")]
+def reached(crate):
+    """The crate and every crate of the repository under it."""
+    under = {name: words.split() for name, _, words in
+             (line.partition(":") for line in (ROOT / "crates.txt").read_text().splitlines())}
+    found = [crate]
+    for name in found:
+        found += [word for word in under[name] if word in under and word not in found]
+    return found
+
+
+def stale(path, crate):
+    """Whether something that the crate is built from is newer than what was built."""
+    sources = [source for name in reached(crate) for source in (ROOT / "crates" / name).rglob("*")]
     return max(source.stat().st_mtime for source in sources if source.exists()) > path.stat().st_mtime
 
 
@@ -83,8 +93,8 @@ def proved(name, folder=None):
     path = pathlib.Path(folder or ROOT / "target" / "bin") / crate
     if not path.is_file():
         raise Unready(f"{path} is not there: 'rt check {crate}' builds it")
-    if folder is None and stale(path):
-        print(f"note: something under crates/ is newer than {path}; 'rt check {crate}' builds it again", file=sys.stderr)
+    if folder is None and stale(path, crate):
+        print(f"note: something that {crate} is built from is newer than {path}; 'rt check {crate}' builds it again", file=sys.stderr)
     return runner() + [str(path)]
 
 
