@@ -7,7 +7,6 @@ use files::Filled;
 use files::PART;
 use files::RECORD;
 use files::TURNS;
-use libc::STDIN_FILENO;
 use module::Outcome;
 use rules::Device;
 use rules::Entry;
@@ -336,17 +335,12 @@ fn answer_log(
 
 fn answer_named(name: &[u8], buf: &mut [u8; PART], out: &mut [u8; TEXT]) {
     let mut area = [0u8; AREA];
-    if base::same(name, b"-") {
-        answer_log(STDIN_FILENO, name, buf, out, &mut area);
-        return;
-    }
-    let fd = os::open_read(name);
+    let fd = files::open_log(name);
     if fd < 0 {
-        os::fail(name);
         return;
     }
     answer_log(fd, name, buf, out, &mut area);
-    libc::close(fd);
+    files::close_log(fd);
 }
 
 fn main() {

@@ -1,6 +1,7 @@
 // Reading logs, which may be files or pipes, and writing text out.
 ghost use Prim.Native.Nat.{_≤_};
 ghost use lib.ListN.{length};
+use libc::STDIN_FILENO;
 use libc::STDOUT_FILENO;
 
 // A record of a log, in bytes.
@@ -12,6 +13,25 @@ pub const PART: usize = 65280;
 // The most parts of a log that are read, 2 to the 56th. A loop has to end, and no log is so long; the records' numbers stay below 9,000,000,000,000,000,000, the
 // bound in the programs' contracts, and so in 64 bits.
 pub const TURNS: u64 = 72057594037927936;
+
+// Opens a log by its name, which is `-` for standard input. One that cannot be opened is named on standard error, and the answer is negative.
+pub fn open_log(name: &[u8]) -> i32 {
+    if base::same(name, b"-") {
+        return STDIN_FILENO;
+    }
+    let fd = os::open_read(name);
+    if fd < 0 {
+        os::fail(name);
+    }
+    fd
+}
+
+// Closes a log, but not standard input, which may be named again.
+pub fn close_log(fd: i32) {
+    if fd != STDIN_FILENO {
+        libc::close(fd);
+    }
+}
 
 // How much of a buffer was filled, and whether reading failed there.
 pub struct Filled {

@@ -7,7 +7,6 @@ use files::Filled;
 use files::PART;
 use files::RECORD;
 use files::TURNS;
-use libc::STDIN_FILENO;
 use play::Played;
 use rules::Device;
 
@@ -77,33 +76,28 @@ fn replay_filled(
     ensures { λ r. ⌜ r .number ≤ number + 120 ⌝ }
 {
     let have = filled.have;
-    let failed = filled.failed;
     let played = put_part(out, buf, have, number, d, area, answer);
     let device = played.device;
     let at = played.at;
     let written = files::show(out, at);
     let number = number + (have / RECORD) as u64;
-    let last = Turn {
-        more: false,
-        number,
-        device,
-    };
-    if !written {
-        return last;
-    }
-    if failed {
-        os::fail(name);
-        return last;
-    }
-    if have < PART {
-        show_end(out, number, have % RECORD != 0, device);
-        return last;
+    let whole = have == PART;
+    if written & !whole {
+        end_log(name, filled, number, device, out);
     }
     Turn {
-        more: true,
+        more: written & whole,
         number,
         device,
     }
+}
+
+fn end_log(name: &[u8], filled: Filled, number: u64, d: Device, out: &mut [u8; TEXT]) {
+    if filled.failed {
+        os::fail(name);
+        return;
+    }
+    show_end(out, number, filled.have % RECORD != 0, d);
 }
 
 // One log, part by part, so that memory does not grow with it.
@@ -140,17 +134,12 @@ fn replay_log(
 fn replay_named(name: &[u8], buf: &mut [u8; PART], out: &mut [u8; TEXT]) {
     let mut area = [0u8; AREA];
     let mut answer = [0u8; ANSWER];
-    if base::same(name, b"-") {
-        replay_log(STDIN_FILENO, name, buf, out, &mut area, &mut answer);
-        return;
-    }
-    let fd = os::open_read(name);
+    let fd = files::open_log(name);
     if fd < 0 {
-        os::fail(name);
         return;
     }
     replay_log(fd, name, buf, out, &mut area, &mut answer);
-    libc::close(fd);
+    files::close_log(fd);
 }
 
 fn main() {
