@@ -251,11 +251,17 @@ fn answer_part(
     let mut answered = Answered { at: 0, device: d };
     let mut j = 0;
     while j < count {
-        let at = answered.at;
-        let device = answered.device;
+        let next = number + j as u64;
         let start = j * RECORD;
         let end = start + RECORD;
-        answered = answer_record(out, at, number + j as u64, device, area, &buf[start..end]);
+        answered = answer_record(
+            out,
+            answered.at,
+            next,
+            answered.device,
+            area,
+            &buf[start..end],
+        );
         j += 1;
     }
     answered
@@ -272,22 +278,21 @@ pub struct Turn {
 fn answer_filled(
     name: &[u8],
     filled: Filled,
-    number: u64,
-    d: Device,
+    turn: Turn,
     buf: &[u8; PART],
     out: &mut [u8; TEXT],
     area: &mut [u8; AREA],
 ) -> Turn
     requires { ⌜ filled .have ≤ 65280 ⌝ }
-    requires { ⌜ number ≤ 9000000000000000000 ⌝ }
-    ensures { λ r. ⌜ r .number ≤ number + 120 ⌝ }
+    requires { ⌜ turn .number ≤ 9000000000000000000 ⌝ }
+    ensures { λ r. ⌜ r .number ≤ turn .number + 120 ⌝ }
 {
     let have = filled.have;
-    let answered = answer_part(out, buf, have, number, d, area);
+    let answered = answer_part(out, buf, have, turn.number, turn.device, area);
     let device = answered.device;
     let at = answered.at;
     let written = files::show(out, at);
-    let number = number + (have / RECORD) as u64;
+    let number = turn.number + (have / RECORD) as u64;
     let whole = have == PART;
     if written & !whole {
         end_log(name, filled, number, device, area);
@@ -326,9 +331,7 @@ fn answer_log(
             return;
         }
         let filled = files::fill(fd, buf);
-        let number = turn.number;
-        let device = turn.device;
-        turn = answer_filled(name, filled, number, device, buf, out, area);
+        turn = answer_filled(name, filled, turn, buf, out, area);
         turns -= 1;
     }
 }

@@ -64,23 +64,22 @@ pub struct Turn {
 fn replay_filled(
     name: &[u8],
     filled: Filled,
-    number: u64,
-    d: Device,
+    turn: Turn,
     buf: &[u8; PART],
     out: &mut [u8; TEXT],
     area: &mut [u8; AREA],
     answer: &mut [u8; ANSWER],
 ) -> Turn
     requires { ⌜ filled .have ≤ 65280 ⌝ }
-    requires { ⌜ number ≤ 9000000000000000000 ⌝ }
-    ensures { λ r. ⌜ r .number ≤ number + 120 ⌝ }
+    requires { ⌜ turn .number ≤ 9000000000000000000 ⌝ }
+    ensures { λ r. ⌜ r .number ≤ turn .number + 120 ⌝ }
 {
     let have = filled.have;
-    let played = put_part(out, buf, have, number, d, area, answer);
+    let played = put_part(out, buf, have, turn.number, turn.device, area, answer);
     let device = played.device;
     let at = played.at;
     let written = files::show(out, at);
-    let number = number + (have / RECORD) as u64;
+    let number = turn.number + (have / RECORD) as u64;
     let whole = have == PART;
     if written & !whole {
         end_log(name, filled, number, device, out);
@@ -117,16 +116,19 @@ fn replay_log(
     if !show_heading(out) {
         return;
     }
-    let mut turn = replay_filled(name, first, 0, module::fresh(), buf, out, area, answer);
+    let fresh = Turn {
+        more: true,
+        number: 0,
+        device: module::fresh(),
+    };
+    let mut turn = replay_filled(name, first, fresh, buf, out, area, answer);
     let mut turns: u64 = TURNS;
     while turns > 0 {
         if !turn.more {
             return;
         }
         let filled = files::fill(fd, buf);
-        let number = turn.number;
-        let device = turn.device;
-        turn = replay_filled(name, filled, number, device, buf, out, area, answer);
+        turn = replay_filled(name, filled, turn, buf, out, area, answer);
         turns -= 1;
     }
 }

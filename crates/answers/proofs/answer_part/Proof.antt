@@ -14,7 +14,7 @@ Inv-loop out₀ buf have number area₀ count answered₀ j₀ out area answered
 abbrev μ-loop : tie.MeasureT-loop
 μ-loop out₀ buf have number area₀ count answered₀ j₀ out area answered j = count - j
 
--- by search: loop-holds, mul-start, add-end, add-answer-record, sub-answer-record, part-answer-record-start, part-answer-record-end,
+-- by search: loop-holds, add-next, mul-start, add-end, sub-answer-record, part-answer-record-start, part-answer-record-end,
 -- answer-record-requires, add-j, loop-less, loop-again, same-length, same-length-2, returns
 pub answer-part-spec : {M : Type 1} → statement M
 answer-part-spec =
