@@ -143,7 +143,7 @@ fn show_security(security: Security) -> bool {
     show_number(b"enabled ", bit(security.enabled))
         && show_number(b"locked ", bit(security.locked))
         && show_number(b"frozen ", bit(security.frozen))
-        && show_number(b"attempts ", base::wide(security.attempts))
+        && show_number(b"attempts ", security.attempts as u64)
         && show_bytes(b"passphrase ", &security.passphrase)
 }
 

@@ -33,12 +33,6 @@ pub fn same(a: &[u8], b: &[u8]) -> bool
     equal
 }
 
-pub fn wide(x: u8) -> u64
-    ensures { λ r. ⌜ r ≡ x ⌝ }
-{
-    x as u64
-}
-
 // Fills the slice with the bytes of n, lowest first.
 pub fn put(out: &mut [u8], n: u64)
     ensures { λ r. ⌜ now (out .exit) ≡ le (length (now (out .entry))) n ⌝ }
