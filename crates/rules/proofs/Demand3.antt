@@ -4,8 +4,8 @@ use mathlib.Core.Path.{_≡_, refl, sym, _∙_, subst}
 use mathlib.Core.List.{[]}
 use Rattle.rules.specs.Module.{Module, Event, tick}
 use Rattle.rules.specs.History.{historyOf, end, All}
-use Rattle.rules.specs.Transfers.{machine, History, none, AllInTurn}
-use Rattle.rules.specs.Demand3.{freshWith, struck, StrikeOut, Stages, Due, StagedExactly, Demand3, DemandOfWhatRemains, Sound, FromAnywhere, WithAnyHosts, DemandFromAnywhere, DemandWithAnyHosts}
+use Rattle.rules.specs.Transfers.{machine, History, none}
+use Rattle.rules.specs.Demand3.{freshWith, struck, StrikeOut, EachFromOneHost, Stages, Due, StagedExactly, Demand3, DemandOfWhatRemains, Sound, FromAnywhere, WithAnyHosts, DemandFromAnywhere, DemandWithAnyHosts}
 use Rattle.rules.proofs.Joining.{plays-log}
 use Rattle.rules.proofs.Struck.{strike-out}
 use Rattle.rules.proofs.Parts.{storeOf, inner}
@@ -15,16 +15,17 @@ use Rattle.rules.proofs.Moved.{move}
 use Rattle.rules.proofs.Unbroken.{all-moved}
 use Rattle.rules.proofs.Honest.{all-remains, honest-struck}
 use Rattle.rules.proofs.Order.{orders}
-use Rattle.rules.proofs.Turn.{turns, hosts-fresh}
+use Rattle.rules.proofs.Turn.{one-host, hosts-fresh}
 use Rattle.rules.proofs.Pieces.{received, own-pieces}
 use Rattle.rules.proofs.Stage.{Ripe, stages-ripe, ripe-stages, staged-once}
 use Rattle.rules.proofs.Due.{ripe-due, due-ripe}
+use Rattle.rules.proofs.Waits.{one-waits}
 use Rattle.rules.proofs.Again.{never-again}
 
 -- From every sound module, and with hosts that use any context.
 pub from-anywhere : DemandFromAnywhere
 from-anywhere m w events =
-    record { strike-out = st; move = move m (struck h) w (st .plays) (all-remains h); all-moved = all-moved m (struck h) w (st .plays) (all-remains h); staged-once = staged-once m h w; never-again = never-again m (struck h) w (st .plays) (all-remains h) }
+    record { strike-out = st; move = move m (struck h) w (st .plays) (all-remains h); all-moved = all-moved m (struck h) w (st .plays) (all-remains h); staged-once = staged-once m h w; one-waits = one-waits m (struck h) w (st .plays) (all-remains h); never-again = never-again m (struck h) w (st .plays) (all-remains h) }
   where
     h : History
     h = historyOf machine m events
@@ -79,12 +80,14 @@ pub of-what-remains : DemandOfWhatRemains
 of-what-remains area size events honest =
     record {
       strike-out = anywhere .strike-out;
-      one-after-another = in-turn;
-      own-pieces = λ f. own-pieces m r f w (any-hosts .received f) in-turn (anywhere .strike-out .plays) k;
+      one-after-another = any-hosts .one-after-another;
+      each-from-one-host = from-one-host;
+      own-pieces = λ f. own-pieces m r f w (any-hosts .received f) from-one-host (anywhere .strike-out .plays) k;
       move = anywhere .move;
       all-moved = anywhere .all-moved;
       staged-exactly = any-hosts .staged-exactly;
       staged-once = anywhere .staged-once;
+      one-waits = anywhere .one-waits;
       never-again = anywhere .never-again;
     }
   where
@@ -109,8 +112,8 @@ of-what-remains area size events honest =
     k : All Remains r
     k = all-remains h
 
-    in-turn : AllInTurn none r
-    in-turn = turns [] none m r w refl (hosts-fresh (storeOf m)) honest (inwards m r w (anywhere .strike-out .plays) k .plays) k
+    from-one-host : EachFromOneHost r
+    from-one-host = one-host [] none m r w refl (hosts-fresh (storeOf m)) honest (inwards m r w (anywhere .strike-out .plays) k .plays) k
 
 -- Demand 3.
 pub demand-3 : Demand3

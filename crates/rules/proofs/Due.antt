@@ -27,7 +27,7 @@ use Rattle.rules.proofs.Facts.{never, Kept, accepted-call, changes, sen
 use Rattle.rules.proofs.Possible.{sound-act}
 use Rattle.rules.proofs.Gate.{Remains}
 use Rattle.rules.proofs.KindOf.{good-accepted, accepted-good, FinishAct, finished-act}
-use Rattle.rules.proofs.Order.{openAfter, Fits, goes, orders, chosen, bytes-open}
+use Rattle.rules.proofs.Order.{openAtEnd, Fits, goes, orders, chosen, bytes-open}
 use Rattle.rules.proofs.Pieces.{open-join, orders-left, AtFinish, at-finish, Opened, opened}
 use Rattle.rules.proofs.Stage.{Ripe, quiet, busy, no-tick}
 
@@ -35,10 +35,10 @@ abbrev bytesOf : Store → List ℕ
 bytesOf s = receivedBytes (s .transfer) (s .area)
 
 -- While it verifies the ticks are counted, and the bytes stay
-record Held (s u : Store) (n : ℕ) : Type 0 where
-  at : u .transfer .phase ≡ Verifying
-  count : u .transfer .ticks + n ≡ s .transfer .ticks
-  bytes : bytesOf u ≡ bytesOf s
+pub record Held (s u : Store) (n : ℕ) : Type 0 where
+  pub at : u .transfer .phase ≡ Verifying
+  pub count : u .transfer .ticks + n ≡ s .transfer .ticks
+  pub bytes : bytesOf u ≡ bytesOf s
 
 held-tick : (s : Store) → s .transfer .phase ≡ Verifying → 1 < s .transfer .ticks → Tick (s .transfer) (s .area) → Held s (storeTick s) 1
 held-tick s p l (calm n e) = never (sym (ap (λ (z : Phase). z is Verifying) p) ∙ n)
@@ -56,7 +56,7 @@ held-act m (Others a b x n answer) got p z l = record { at = p; count = omega ar
 held-act m Ticks got p z l = held-tick (storeOf m) p l (tick-case (m .device .transfer) (m .area))
 held-act m Powers got p z l = absurd (omega arith)
 
-held : (m : Module) (h : History) → m .device .transfer .phase ≡ Verifying → powerCycles h ≡ 0 → ticksIn h < m .device .transfer .ticks → Held (storeOf m) (storeOf (end inner m h)) (ticksIn h)
+pub held : (m : Module) (h : History) → m .device .transfer .phase ≡ Verifying → powerCycles h ≡ 0 → ticksIn h < m .device .transfer .ticks → Held (storeOf m) (storeOf (end inner m h)) (ticksIn h)
 held m [] p z l = record { at = p; count = omega arith; bytes = refl }
 held m (x ∷ h) p z l =
     let e = kind-act x in
@@ -65,6 +65,15 @@ held m (x ∷ h) p z l =
     (held-act m (act (x .event)) (x .got) p (omega (arith, ap powerCount e)) (omega (arith, ap tickCount e))) in
     let b : Held (storeOf (inner .next m (x .event))) (storeOf (end inner m (x ∷ h))) (ticksIn h) = held (inner .next m (x .event)) h (a .at) (omega arith) (omega (arith, a .count)) in
     record { at = b .at; count = omega (arith, a .count, b .count); bytes = b .bytes ∙ a .bytes }
+
+-- what an accepted Finish without abort leaves
+pub after-finish : (m : Module) (x : Exchange) (host context : ℕ) → kindOf x ≡ Finished host context 0 → inner .answer m (x .event) ≡ x .got
+    → storeOf (inner .next m (x .event)) ≡ storeChange (storeOf m) (Finish 0 context)
+after-finish m x host context k p =
+    let a : FinishAct (act (x .event)) (x .got) host context 0 = finished-act (act (x .event)) (x .got) host context 0 (sym (kind-act x) ∙ k) in
+    ap (λ (z : Act). storeOf (nexts m z)) (a .act-is)
+    ∙ changes (storeOf m) (a .unserved) (a .misfit) (Finish 0 context)
+    (good-accepted (storeOf m) (a .unserved) (a .misfit) (Finish 0 context) (a .n) (a .answer) (x .got) (subst (λ (z : Act). answers m z ≡ x .got) (a .act-is) p) (a .good))
 
 -- A record in Verifying has such a history
 record Waiting (h : History) (s : Store) : Type 0 where
@@ -75,8 +84,8 @@ record Waiting (h : History) (s : Store) : Type 0 where
   context : ℕ
   whole : h ≡ before ++ (finish ∷ since)
   finishes : kindOf finish ≡ Finished host context 0
-  of-open : InOpen (openAfter none before) context
-  bytes : bytesOf s ≡ bytesSoFar (openAfter none before)
+  of-open : InOpen (openAtEnd none before) context
+  bytes : bytesOf s ≡ bytesSoFar (openAtEnd none before)
   count : ticksIn since + s .transfer .ticks ≡ verification
   some : 1 ≤ s .transfer .ticks
   no-power : powerCycles since ≡ 0
@@ -127,7 +136,7 @@ watch-tick h s x k w (counting q l e) p =
 watch-tick h s x k w (good version q l i e) p = never (sym (ap (λ (z : Phase). z is Verifying) p) ∙ ap (λ (t : Transfer). t .phase is Verifying) e)
 watch-tick h s x k w (bad q l i e) p = never (sym (ap (λ (z : Phase). z is Verifying) p) ∙ ap (λ (t : Transfer). t .phase is Verifying) e)
 
-watch-finish : (h : History) (s : Store) (x : Exchange) (host context flag : ℕ) → kindOf x ≡ Finished host context flag → InOpen (openAfter none h) context → bytesOf s ≡ bytesSoFar (openAfter none h)
+watch-finish : (h : History) (s : Store) (x : Exchange) (host context flag : ℕ) → kindOf x ≡ Finished host context flag → InOpen (openAtEnd none h) context → bytesOf s ≡ bytesSoFar (openAtEnd none h)
     → Watch (h ++ (x ∷ [])) (storeChange s (Finish flag context))
 unfolding Watch
 watch-finish h s x host context flag k o b = go (flag =? 0) refl
@@ -152,7 +161,7 @@ watch-finish h s x host context flag k o b = go (flag =? 0) refl
         })
     go false e p = never (sym (ap (λ (z : Phase). z is Verifying) p) ∙ ap (λ (c : Bool). (if c then s .transfer with-phase Verifying with-ticks verification else (s .transfer with-phase Idle with-received 0)) .phase is Verifying) e)
 
-watch-act : (h : History) (x : Exchange) (m : Module) (f : Act) → kindOf x ≡ actKind f (x .got) → Fits (openAfter none h) (storeOf m) → InOrder (openAfter none h) (kindOf x) → Watch h (storeOf m)
+watch-act : (h : History) (x : Exchange) (m : Module) (f : Act) → kindOf x ≡ actKind f (x .got) → Fits (openAtEnd none h) (storeOf m) → InOrder (openAtEnd none h) (kindOf x) → Watch h (storeOf m)
     → answers m f ≡ x .got → Kept (x .got) → Watch (h ++ (x ∷ [])) (storeOf (nexts m f))
 watch-act h x m (Transfers host a b GetFwInfo n answer) e o t w p k =
     same-watch h (storeOf m) (storeNext (storeOf m) a b GetFwInfo) x
@@ -169,8 +178,8 @@ watch-act h x m (Transfers host a b (Finish flag context) n answer) e o t w p k 
     let v = accepted-call (storeOf m) a b (Finish flag context) n answer (ap (λ (z : Answer). remains (z .reply .verdict)) p ∙ k) in
     let kind : kindOf x ≡ Finished host context flag = e ∙ chosen (x .got) (Finished host context flag) (accepted-good (storeOf m) a b (Finish flag context) n answer (x .got) p v) in
     subst (λ (s : Store). Watch (h ++ (x ∷ [])) s) (sym (changes (storeOf m) a b (Finish flag context) v))
-    (watch-finish h (storeOf m) x host context flag kind (subst (λ (z : Kind). InOrder (openAfter none h) z) kind t)
-    (bytes-open (openAfter none h) (storeOf m) o (finish-ok (storeOf m) a b flag context v .at)))
+    (watch-finish h (storeOf m) x host context flag kind (subst (λ (z : Kind). InOrder (openAtEnd none h) z) kind t)
+    (bytes-open (openAtEnd none h) (storeOf m) o (finish-ok (storeOf m) a b flag context v .at)))
 watch-act h x m (Transfers host a b (Query context) n answer) e o t w p k =
     same-watch h (storeOf m) (storeNext (storeOf m) a b (Query context)) x
     (changes (storeOf m) a b (Query context) (accepted-call (storeOf m) a b (Query context) n answer (ap (λ (z : Answer). remains (z .reply .verdict)) p ∙ k))) e w
@@ -178,11 +187,11 @@ watch-act h x m (Others a b y n answer) e o t w p k = same-watch h (storeOf m) (
 watch-act h x m Ticks e o t w p k = watch-tick h (storeOf m) x e w (tick-case (m .device .transfer) (m .area))
 watch-act h x m Powers e o t w p k = unfold Watch in (λ q. never (sym (ap (λ (z : Phase). z is Verifying) q)))
 
-watch : (before : History) (m : Module) (h : History) → Sound m → Fits (openAfter none before) (storeOf m) → Watch before (storeOf m) → Plays inner m h → All Remains h
+watch : (before : History) (m : Module) (h : History) → Sound m → Fits (openAtEnd none before) (storeOf m) → Watch before (storeOf m) → Plays inner m h → All Remains h
     → Watch (before ++ h) (storeOf (end inner m h))
 watch before m [] s o w p k = rw append-nil w
 watch before m (x ∷ h) s o w p k =
-    let g = goes x (openAfter none before) m s o (p .0) (k .0) in
+    let g = goes x (openAtEnd none before) m s o (p .0) (k .0) in
     let w′ = watch-act before x m (act (x .event)) (kind-act x) o (g .order) w (p .0) (k .0) in
     subst (λ (z : History). Watch z (storeOf (end inner m (x ∷ h)))) (append-assoc before (x ∷ []) h)
     (watch (before ++ (x ∷ [])) (inner .next m (x .event)) h (sound-act m (act (x .event)) s)
@@ -190,9 +199,9 @@ watch before m (x ∷ h) s o w p k =
 
 -- The transfer that is waiting, from its Start
 due-from : (h : History) (s : Store) (version : ℕ) → AllInOrder none h → Waiting h s → Ripe s version → Due h version
-due-from h s version t w r = go (openAfter none (w .before)) refl (w .of-open) (w .bytes)
+due-from h s version t w r = go (openAtEnd none (w .before)) refl (w .of-open) (w .bytes)
   where
-    go : (o : Open) → openAfter none (w .before) ≡ o → InOpen o (w .context) → bytesOf s ≡ bytesSoFar o → Due h version
+    go : (o : Open) → openAtEnd none (w .before) ≡ o → InOpen o (w .context) → bytesOf s ≡ bytesSoFar o → Due h version
     go none e of b = absurd of
     go (by host c bytes) e of b =
         let p : Opened (w .before) host c bytes = opened (w .before) host c bytes (orders-left none (w .before) (w .finish ∷ w .since) (subst (λ (z : History). AllInOrder none z) (w .whole) t)) e in
@@ -252,14 +261,8 @@ due-ripe m h version s o p k d =
     q : Plays inner v last
     q = plays-right inner m pre last (at .played)
 
-    a : FinishAct (act (f .finish .event)) (f .finish .got) (f .finisher) (f .context) 0
-    a = finished-act (act (f .finish .event)) (f .finish .got) (f .finisher) (f .context) 0 (sym (kind-act (f .finish)) ∙ f .finishes ∙ ap (Finished (f .finisher) (f .context)) (d .no-abort))
-
     e : storeOf (inner .next v (f .finish .event)) ≡ storeChange (storeOf v) (Finish 0 (f .context))
-    e =
-        ap (λ (z : Act). storeOf (nexts v z)) (a .act-is)
-        ∙ changes (storeOf v) (a .unserved) (a .misfit) (Finish 0 (f .context))
-        (good-accepted (storeOf v) (a .unserved) (a .misfit) (Finish 0 (f .context)) (a .n) (a .answer) (f .finish .got) (subst (λ (z : Act). answers v z ≡ f .finish .got) (a .act-is) (q .0)) (a .good))
+    e = after-finish v (f .finish) (f .finisher) (f .context) (f .finishes ∙ ap (Finished (f .finisher) (f .context)) (d .no-abort)) (q .0)
 
     eight : storeOf (inner .next v (f .finish .event)) .transfer .ticks ≡ verification
     eight = ap (λ (z : Store). z .transfer .ticks) e

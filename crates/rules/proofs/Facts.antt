@@ -1,14 +1,14 @@
--- What an accepted transfer call tells of the record, call by call. The only place that looks into the checks.
+-- What an accepted transfer call tells of the record, call by call: what its checks, passed one by one, come to.
 -- Assumes nothing.
 use Prim.Native.Nat.{ℕ, _+_, _-_, _≤_, _<_}
-use mathlib.Core.Path.{_≡_, refl, sym}
+use mathlib.Core.Path.{_≡_, refl, sym, _∙_, ap}
 use mathlib.Core.Bool.{Bool, true, false, not, _||_, true≢false}
 use mathlib.Core.List.{List, _++_}
 use lib.ListN.{length}
 use borrow.Author.Tests.{ltb-true, ltb-false, eqb-true, eqb-false, not-false}
-use Rattle.rules.specs.Tests.{_=?_, _<?_}
+use Rattle.rules.specs.Tests.{if_then_else_, _=?_, _<?_}
 use Rattle.rules.specs.Numbers.{areaSize, longestPiece, lastContext}
-use Rattle.rules.specs.Record.{_is_, current}
+use Rattle.rules.specs.Record.{_is_, phaseNumber, current}
 use Rattle.rules.specs.Refusals.{verdict}
 use Rattle.rules.specs.With.{_with-ticks_, _with-phase_, _with-staged_}
 use Rattle.rules.specs.Image.{imageOf}
@@ -32,19 +32,20 @@ use Rattle.rules.proofs.Through.{taken, transfer-mild}
 pub never : {X : Type 0} → true ≡ false → X
 never e = absurd (true≢false e)
 
-pub receiving : (p : Phase) → (p is Receiving) ≡ true → p ≡ Receiving
-receiving Idle e = never (sym e)
-receiving Receiving e = refl
-receiving Verifying e = never (sym e)
-receiving Staged e = never (sym e)
-receiving Failed e = never (sym e)
+-- the phase of a number
+phaseNumbered : ℕ → Phase
+phaseNumbered n = if n =? 0 then Idle else if n =? 1 then Receiving else if n =? 2 then Verifying else if n =? 3 then Staged else Failed
 
-pub verifying : (p : Phase) → (p is Verifying) ≡ true → p ≡ Verifying
-verifying Idle e = never (sym e)
-verifying Receiving e = never (sym e)
-verifying Verifying e = refl
-verifying Staged e = never (sym e)
-verifying Failed e = never (sym e)
+phase-back : (p : Phase) → phaseNumbered (phaseNumber p) ≡ p
+unfolding phaseNumbered
+phase-back Idle = refl
+phase-back Receiving = refl
+phase-back Verifying = refl
+phase-back Staged = refl
+phase-back Failed = refl
+
+pub is-phase : (p q : Phase) → (p is q) ≡ true → p ≡ q
+is-phase p q e = sym (phase-back p) ∙ ap phaseNumbered (eqb-true (phaseNumber p) (phaseNumber q) e) ∙ phase-back q
 
 -- a transfer call whose answer remains was accepted
 answer-remains : (v : Verdict) (n : ℕ) (bytes answer : List ℕ) → remains (answerBy v n bytes answer .reply .verdict) ≡ true → remains v ≡ true
@@ -108,7 +109,7 @@ send-ok s a b context offset size piece v =
     let exact = or-false (not (size =? length piece)) (size =? 0) (piece-long .0) in
     let q = and-true (t .phase is Receiving) (context =? current t) (not-false _ (w .1 .1 .1 .0)) in
     record {
-      at = receiving (t .phase) (q .0);
+      at = is-phase (t .phase) Receiving (q .0);
       own = eqb-true context (current t) (q .1);
       here = eqb-true offset (t .received) (not-false _ (w .1 .1 .1 .1 .0));
       size-is = eqb-true size (length piece) (not-false _ (exact .0));
@@ -127,7 +128,7 @@ finish-ok s a b flag context v =
     let q = and-true (not (t .phase is Idle)) (context =? current t) (not-false _ (w .1 .1 .1 .0)) in
     record {
       flag-ok = ltb-false 1 flag (w .1 .1 .0);
-      at = receiving (t .phase) (not-false _ (w .1 .1 .1 .1 .0));
+      at = is-phase (t .phase) Receiving (not-false _ (w .1 .1 .1 .1 .0));
       own = eqb-true context (current t) (q .1);
     }
 
@@ -147,6 +148,6 @@ tick-case t area = at (t .phase is Verifying) refl (1 <? t .ticks) refl (imageOf
   where
     at : (b : Bool) → (t .phase is Verifying) ≡ b → (c : Bool) → (1 <? t .ticks) ≡ c → (i : Image) → imageOf (receivedBytes t area) ≡ i → Tick t area
     at false e c f i g = calm e (rw e)
-    at true e true f i g = counting (verifying (t .phase) e) (ltb-true 1 (t .ticks) f) (rw (e, f))
-    at true e false f (Good version) g = good version (verifying (t .phase) e) (ltb-false 1 (t .ticks) f) g (rw (e, f, g))
-    at true e false f Bad g = bad (verifying (t .phase) e) (ltb-false 1 (t .ticks) f) g (rw (e, f, g))
+    at true e true f i g = counting (is-phase (t .phase) Verifying e) (ltb-true 1 (t .ticks) f) (rw (e, f))
+    at true e false f (Good version) g = good version (is-phase (t .phase) Verifying e) (ltb-false 1 (t .ticks) f) g (rw (e, f, g))
+    at true e false f Bad g = bad (is-phase (t .phase) Verifying e) (ltb-false 1 (t .ticks) f) g (rw (e, f, g))

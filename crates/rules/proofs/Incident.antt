@@ -7,17 +7,16 @@ use native.Mathlib.Omega.{arith}
 use lib.ListN.{length, take, drop, replicate, length-replicate}
 use Rattle.rules.specs.Bytes.{le, zeros, zeros?}
 use Rattle.rules.specs.Numbers.{areaSize}
-use Rattle.rules.specs.Record.{possible, possibleTransfer, possibleSecurity, possibleThresholds}
+use Rattle.rules.specs.Record.{phaseNumber, possible, possibleTransfer, possibleSecurity, possibleThresholds}
 use Rattle.rules.specs.Refusals.{verdict}
 use Rattle.rules.specs.Table.{rowOf, fits?}
 use Rattle.rules.specs.Image.{sumOfWords, goodRecord, goodRecords, goodImage, imageOf}
-use Rattle.rules.specs.Module.{Module, Event, call, tick, power, callResult, tickResult, powerResult}
+use Rattle.rules.specs.Module.{Module, Result, Event, call, tick, power, outOf, after, callResult, tickResult, powerResult}
 use Rattle.rules.specs.Replay.{printedStatus, printedExt}
-use Rattle.rules.specs.History.{historyOf, end}
-use Rattle.rules.specs.Transfers.{machine, Exchange, History}
+use Rattle.rules.specs.History.{historyOf}
+use Rattle.rules.specs.Transfers.{machine, Exchange}
 use Rattle.rules.specs.Moves.{rearranged}
-use Rattle.rules.specs.Demand3.{freshWith, Honest, struck, OneAfterAnother, Demand3Of}
-use Rattle.rules.specs.declared.Phase.the-variants.{Staged}
+use Rattle.rules.specs.Demand3.{freshWith, Honest, struck, EachFromOneHost, Demand3Of}
 use Rattle.rules.proofs.Checked.{checked}
 use Rattle.rules.proofs.Demand3.{demand-3}
 
@@ -66,32 +65,61 @@ restart = tick ∷ start laptop ∷ ask recorder 16 (le 4 1) ∷ power ∷ ask l
 abbrev new : Module
 new = freshWith (zeros areaSize)
 
-abbrev answersIn : History → List (ℕ × ℕ)
-answersIn h = map (λ (x : Exchange). (printedStatus (x .got .reply .verdict), printedExt (x .got .reply .verdict))) h
+-- what an event comes to: its status and extended number; then the phase's number, the staged version and the running one
+abbrev row : Result → List ℕ
+row result =
+    printedStatus (result .reply .verdict)
+    ∷ printedExt (result .reply .verdict)
+    ∷ phaseNumber (result .device .transfer .phase)
+    ∷ result .device .transfer .staged
+    ∷ result .device .transfer .running
+    ∷ []
 
--- Which calls are refused: the laptop's Starts, 7/1 while the transfer is received or verified, 7/2 once it is staged, and its Send, 3.
-pub refused : answersIn (historyOf machine new (same-hour ++ restart))
-    ≡ (0, 0) ∷ (7, 1) ∷ (0, 0) ∷ (3, 0) ∷ (0, 0) ∷ (0, 0) ∷ (7, 1) ∷ (0, 0) ∷ (7, 1)
-    ∷ (0, 0) ∷ (0, 0) ∷ (0, 0) ∷ (0, 0) ∷ (0, 0) ∷ (0, 0) ∷ (0, 0)
-    ∷ (0, 0) ∷ (7, 2) ∷ (0, 0) ∷ (0, 0) ∷ (0, 0) ∷ []
+abbrev told : Module → List Event → List (List ℕ)
+told m [] = []
+told m (event ∷ events) = row (outOf m event) ∷ told (after (outOf m event)) events
+
+-- Every Start of the laptop is refused, one image is staged, by the eighth tick, and after the restart it is the running one.
+pub comes-to : told new (same-hour ++ restart)
+    -- the recorder's Start: Receiving
+    ≡ (0 ∷ 0 ∷ 1 ∷ 0 ∷ 1 ∷ [])
+    -- the laptop's Start: 7/1
+    ∷ (7 ∷ 1 ∷ 1 ∷ 0 ∷ 1 ∷ [])
+    -- the recorder's first Send
+    ∷ (0 ∷ 0 ∷ 1 ∷ 0 ∷ 1 ∷ [])
+    -- the laptop's Send, too short to carry a context: 3
+    ∷ (3 ∷ 0 ∷ 1 ∷ 0 ∷ 1 ∷ [])
+    -- the laptop's Get FW Info
+    ∷ (0 ∷ 0 ∷ 1 ∷ 0 ∷ 1 ∷ [])
+    -- the recorder's second Send
+    ∷ (0 ∷ 0 ∷ 1 ∷ 0 ∷ 1 ∷ [])
+    -- the laptop's Start: 7/1
+    ∷ (7 ∷ 1 ∷ 1 ∷ 0 ∷ 1 ∷ [])
+    -- the recorder's Finish: Verifying
+    ∷ (0 ∷ 0 ∷ 2 ∷ 0 ∷ 1 ∷ [])
+    -- the laptop's Start: 7/1
+    ∷ (7 ∷ 1 ∷ 2 ∷ 0 ∷ 1 ∷ [])
+    -- seven ticks
+    ∷ (0 ∷ 0 ∷ 2 ∷ 0 ∷ 1 ∷ [])
+    ∷ (0 ∷ 0 ∷ 2 ∷ 0 ∷ 1 ∷ [])
+    ∷ (0 ∷ 0 ∷ 2 ∷ 0 ∷ 1 ∷ [])
+    ∷ (0 ∷ 0 ∷ 2 ∷ 0 ∷ 1 ∷ [])
+    ∷ (0 ∷ 0 ∷ 2 ∷ 0 ∷ 1 ∷ [])
+    ∷ (0 ∷ 0 ∷ 2 ∷ 0 ∷ 1 ∷ [])
+    ∷ (0 ∷ 0 ∷ 2 ∷ 0 ∷ 1 ∷ [])
+    -- the eighth: Staged, version 2
+    ∷ (0 ∷ 0 ∷ 3 ∷ 2 ∷ 1 ∷ [])
+    -- the laptop's Start: 7/2
+    ∷ (7 ∷ 2 ∷ 3 ∷ 2 ∷ 1 ∷ [])
+    -- the recorder's Query
+    ∷ (0 ∷ 0 ∷ 3 ∷ 2 ∷ 1 ∷ [])
+    -- the power cycle: Idle, version 2 running
+    ∷ (0 ∷ 0 ∷ 0 ∷ 0 ∷ 2 ∷ [])
+    -- the laptop's Get FW Info
+    ∷ (0 ∷ 0 ∷ 0 ∷ 0 ∷ 2 ∷ [])
+    ∷ []
 unfolding zeros? possible possibleTransfer possibleSecurity possibleThresholds verdict rowOf fits? sumOfWords goodRecord goodRecords goodImage imageOf callResult tickResult powerResult
-refused = refl
-
--- One image is staged, by the eighth tick; after the restart it is the running one.
-abbrev staged-version : Module → ℕ
-staged-version m = m .device .transfer .staged
-
-pub staged : end machine new (historyOf machine new (same-hour ++ (tick ∷ []))) .device .transfer .phase ≡ Staged
-unfolding zeros? possible possibleTransfer possibleSecurity possibleThresholds verdict rowOf fits? sumOfWords goodRecord goodRecords goodImage imageOf callResult tickResult powerResult
-staged = refl
-
-pub version : staged-version (end machine new (historyOf machine new (same-hour ++ (tick ∷ [])))) ≡ 2
-unfolding zeros? possible possibleTransfer possibleSecurity possibleThresholds verdict rowOf fits? sumOfWords goodRecord goodRecords goodImage imageOf callResult tickResult powerResult
-version = refl
-
-pub running : end machine new (historyOf machine new (same-hour ++ restart)) .device .transfer .running ≡ 2
-unfolding zeros? possible possibleTransfer possibleSecurity possibleThresholds verdict rowOf fits? sumOfWords goodRecord goodRecords goodImage imageOf callResult tickResult powerResult
-running = refl
+comes-to = refl
 
 -- who called which function, in the order of the rearranged history: the laptop's Get FW Info goes before the recorder's Start
 abbrev caller : Event → ℕ × ℕ
@@ -117,6 +145,6 @@ as-demanded = demand-3 (zeros areaSize) (length-replicate {A = ℕ} areaSize 0) 
 abbrev not-honest : List Event
 not-honest = start recorder ∷ send laptop 1 0 (take 64 image) ∷ []
 
-pub needed : OneAfterAnother (struck (historyOf machine new not-honest)) → ⊥
+pub needed : EachFromOneHost (struck (historyOf machine new not-honest)) → ⊥
 unfolding zeros? possible possibleTransfer possibleSecurity possibleThresholds verdict rowOf fits? callResult
-needed t = let same : laptop ≡ recorder = t .1 .0 .0 .0 in omega arith
+needed t = let same : laptop ≡ recorder = t .1 .0 in omega arith

@@ -32,6 +32,7 @@ pub mod Turn
 pub mod Pieces
 pub mod Stage
 pub mod Due
+pub mod Waits
 pub mod Again
 pub mod Demand3
 pub mod Checked

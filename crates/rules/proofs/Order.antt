@@ -15,7 +15,7 @@ use Rattle.rules.specs.Refusals.{refused?}
 use Rattle.rules.specs.Transfer.{TransferCall, GetFwInfo, Start, Send, Finish, Query, receivedBytes}
 use Rattle.rules.specs.Module.{Module}
 use Rattle.rules.specs.History.{Plays, end, All}
-use Rattle.rules.specs.Transfers.{Answer, Exchange, History, Kind, Started, Sent, Finished, Ticked, Powered, Other, kindOf, Open, none, by, bytesSoFar, withPiece, opens, InOpen, InOrder, AllInOrder}
+use Rattle.rules.specs.Transfers.{Answer, Exchange, History, Kind, Started, Sent, Finished, Ticked, Powered, Other, kindOf, Open, none, by, bytesSoFar, withPiece, openAfter, InOpen, InOrder, AllInOrder}
 use Rattle.rules.specs.Demand3.{AnsweredTo, remains, Sound}
 use Rattle.rules.specs.declared.Phase.{Phase}
 use Rattle.rules.specs.declared.Phase.the-variants.{Receiving, Verifying}
@@ -45,9 +45,9 @@ Fits none s = (s .transfer .phase is Receiving) ≡ false
 Fits (by host context bytes) s = Holding context bytes s
 
 -- which transfer is open after a history
-abbrev pub openAfter : Open → History → Open
-openAfter now [] = now
-openAfter now (x ∷ h) = openAfter (opens now (kindOf x)) h
+abbrev pub openAtEnd : Open → History → Open
+openAtEnd now [] = now
+openAtEnd now (x ∷ h) = openAtEnd (openAfter now (kindOf x)) h
 
 -- a Send's or a Finish's context was answered to its host
 abbrev pub UsesKind : History → Kind → Type 0
@@ -61,7 +61,7 @@ UsesKind past Other = Unit {0}
 -- what an entry that remains does, by its kind: it comes in order, what is open fits the record after it, and only a Start gives a context
 pub record Goes (f : Act) (o : Open) (k : Kind) (s u : Store) : Type 0 where
   pub order : InOrder o k
-  pub fits : Fits (opens o k) u
+  pub fits : Fits (openAfter o k) u
   pub same-given : NoStart k → given u ≡ given s
   pub used : (past : History) → UsesAct past f → UsesKind past k
 
@@ -186,10 +186,10 @@ pub orders : (o : Open) (m : Module) (h : History) → Sound m → Fits o (store
 orders o m [] s w p k = tt
 orders o m (x ∷ h) s w p k =
     let g = goes x o m s w (p .0) (k .0) in
-    (g .order, orders (opens o (kindOf x)) (inner .next m (x .event)) h (sound-act m (act (x .event)) s) (g .fits) (p .1) (k .1))
+    (g .order, orders (openAfter o (kindOf x)) (inner .next m (x .event)) h (sound-act m (act (x .event)) s) (g .fits) (p .1) (k .1))
 
-pub fits-at : (o : Open) (m : Module) (h : History) → Sound m → Fits o (storeOf m) → Plays inner m h → All Remains h → Fits (openAfter o h) (storeOf (end inner m h))
+pub fits-at : (o : Open) (m : Module) (h : History) → Sound m → Fits o (storeOf m) → Plays inner m h → All Remains h → Fits (openAtEnd o h) (storeOf (end inner m h))
 fits-at o m [] s w p k = w
 fits-at o m (x ∷ h) s w p k =
     let g = goes x o m s w (p .0) (k .0) in
-    fits-at (opens o (kindOf x)) (inner .next m (x .event)) h (sound-act m (act (x .event)) s) (g .fits) (p .1) (k .1)
+    fits-at (openAfter o (kindOf x)) (inner .next m (x .event)) h (sound-act m (act (x .event)) s) (g .fits) (p .1) (k .1)

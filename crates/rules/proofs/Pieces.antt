@@ -10,7 +10,7 @@ use borrow.Author.Tests.{eq-eqb}
 use Rattle.rules.specs.Transfer.{receivedBytes}
 use Rattle.rules.specs.Module.{Module}
 use Rattle.rules.specs.History.{Plays, end, All, keep}
-use Rattle.rules.specs.Transfers.{machine, Exchange, History, Kind, Started, Sent, Finished, Ticked, Powered, Other, kindOf, Open, none, by, bytesSoFar, opens, InTurn, AllInTurn, InOrder, AllInOrder}
+use Rattle.rules.specs.Transfers.{machine, Exchange, History, Kind, Started, Sent, Finished, Ticked, Powered, Other, kindOf, Open, none, by, bytesSoFar, openAfter, InOrder, AllInOrder, ByStarter, AllByStarter}
 use Rattle.rules.specs.Sends.{isSendOf, ownSends, pieceOf, pieces, SentBy, FinishedIn}
 use Rattle.rules.specs.Demand3.{Sound, Received, OwnPieces}
 use Rattle.rules.proofs.Joining.{all-left, plays-left, plays-right}
@@ -18,26 +18,26 @@ use Rattle.rules.proofs.Parts.{storeOf, inner}
 use Rattle.rules.proofs.Gate.{Remains, inwards}
 use Rattle.rules.proofs.Inside.{Within, finish-at}
 use Rattle.rules.proofs.Moved.{between-within, free-of}
-use Rattle.rules.proofs.Order.{openAfter, Fits, bytes-open, fits-at}
+use Rattle.rules.proofs.Order.{openAtEnd, Fits, bytes-open, fits-at}
 
-pub open-join : (o : Open) (h k : History) → openAfter o (h ++ k) ≡ openAfter (openAfter o h) k
+pub open-join : (o : Open) (h k : History) → openAtEnd o (h ++ k) ≡ openAtEnd (openAtEnd o h) k
 open-join o [] k = refl
-open-join o (x ∷ h) k = open-join (opens o (kindOf x)) h k
+open-join o (x ∷ h) k = open-join (openAfter o (kindOf x)) h k
 
 pub orders-left : (o : Open) (h k : History) → AllInOrder o (h ++ k) → AllInOrder o h
 orders-left o [] k u = tt
-orders-left o (x ∷ h) k u = (u .0, orders-left (opens o (kindOf x)) h k (u .1))
+orders-left o (x ∷ h) k u = (u .0, orders-left (openAfter o (kindOf x)) h k (u .1))
 
-turns-left : (o : Open) (h k : History) → AllInTurn o (h ++ k) → AllInTurn o h
-turns-left o [] k u = tt
-turns-left o (x ∷ h) k u = (u .0, turns-left (opens o (kindOf x)) h k (u .1))
+by-left : (o : Open) (h k : History) → AllByStarter o (h ++ k) → AllByStarter o h
+by-left o [] k u = tt
+by-left o (x ∷ h) k u = (u .0, by-left (openAfter o (kindOf x)) h k (u .1))
 
-turns-right : (o : Open) (h k : History) → AllInTurn o (h ++ k) → AllInTurn (openAfter o h) k
-turns-right o [] k u = u
-turns-right o (x ∷ h) k u = turns-right (opens o (kindOf x)) h k (u .1)
+by-right : (o : Open) (h k : History) → AllByStarter o (h ++ k) → AllByStarter (openAtEnd o h) k
+by-right o [] k u = u
+by-right o (x ∷ h) k u = by-right (openAfter o (kindOf x)) h k (u .1)
 
 -- an own Send adds its piece; one that may move adds nothing
-own-opens : (host c : ℕ) (bytes : List ℕ) (k : Kind) → isSendOf c k ≡ true → opens (by host c bytes) k ≡ by host c (bytes ++ pieceOf k)
+own-opens : (host c : ℕ) (bytes : List ℕ) (k : Kind) → isSendOf c k ≡ true → openAfter (by host c bytes) k ≡ by host c (bytes ++ pieceOf k)
 own-opens host c bytes (Started j d) e = absurd (false≢true e)
 own-opens host c bytes (Sent j d offset piece) e = refl
 own-opens host c bytes (Finished j d flag) e = absurd (false≢true e)
@@ -45,46 +45,46 @@ own-opens host c bytes Ticked e = absurd (false≢true e)
 own-opens host c bytes Powered e = absurd (false≢true e)
 own-opens host c bytes Other e = absurd (false≢true e)
 
-own-sender : (host c : ℕ) (bytes : List ℕ) (k : Kind) → isSendOf c k ≡ true → InTurn (by host c bytes) k → SentBy host k
+own-sender : (host c : ℕ) (bytes : List ℕ) (k : Kind) → isSendOf c k ≡ true → ByStarter (by host c bytes) k → SentBy host k
 own-sender host c bytes (Started j d) e t = absurd (false≢true e)
-own-sender host c bytes (Sent j d offset piece) e t = t .0 .0
+own-sender host c bytes (Sent j d offset piece) e t = t
 own-sender host c bytes (Finished j d flag) e t = absurd (false≢true e)
 own-sender host c bytes Ticked e t = absurd (false≢true e)
 own-sender host c bytes Powered e t = absurd (false≢true e)
 own-sender host c bytes Other e t = absurd (false≢true e)
 
-free-opens : (o : Open) (k : Kind) → (k ≡ Ticked) ⊎ (k ≡ Other) → opens o k ≡ o
-free-opens o k (inl e) = ap (opens o) e
-free-opens o k (inr e) = ap (opens o) e
+free-opens : (o : Open) (k : Kind) → (k ≡ Ticked) ⊎ (k ≡ Other) → openAfter o k ≡ o
+free-opens o k (inl e) = ap (openAfter o) e
+free-opens o k (inr e) = ap (openAfter o) e
 
 -- what is open after what stands between
 between-step : (host c : ℕ) (bytes : List ℕ) (x : Exchange) (mid : History) → Within c x
-    → ((b : List ℕ) → openAfter (by host c b) mid ≡ by host c (b ++ pieces (ownSends c mid)))
-    → openAfter (by host c bytes) (x ∷ mid) ≡ by host c (bytes ++ pieces (ownSends c (x ∷ mid)))
+    → ((b : List ℕ) → openAtEnd (by host c b) mid ≡ by host c (b ++ pieces (ownSends c mid)))
+    → openAtEnd (by host c bytes) (x ∷ mid) ≡ by host c (bytes ++ pieces (ownSends c (x ∷ mid)))
 between-step host c bytes x mid (inl q) i =
-    ap (λ (o : Open). openAfter o mid) (own-opens host c bytes (kindOf x) (q .0))
+    ap (λ (o : Open). openAtEnd o mid) (own-opens host c bytes (kindOf x) (q .0))
     ∙ i (bytes ++ pieceOf (kindOf x))
     ∙ ap (by host c) (append-assoc bytes (pieceOf (kindOf x)) (pieces (ownSends c mid)))
     ∙ ap (λ (b : Bool). by host c (bytes ++ pieces (keep b x (ownSends c mid)))) (sym (q .0))
 between-step host c bytes x mid (inr q) i =
-    ap (λ (o : Open). openAfter o mid) (free-opens (by host c bytes) (kindOf x) (free-of x (q .1)))
+    ap (λ (o : Open). openAtEnd o mid) (free-opens (by host c bytes) (kindOf x) (free-of x (q .1)))
     ∙ i bytes
     ∙ ap (λ (b : Bool). by host c (bytes ++ pieces (keep b x (ownSends c mid)))) (sym (q .0))
 
-open-between : (host c : ℕ) (mid : History) → All (Within c) mid → (bytes : List ℕ) → openAfter (by host c bytes) mid ≡ by host c (bytes ++ pieces (ownSends c mid))
+open-between : (host c : ℕ) (mid : History) → All (Within c) mid → (bytes : List ℕ) → openAtEnd (by host c bytes) mid ≡ by host c (bytes ++ pieces (ownSends c mid))
 open-between host c [] a bytes = ap (by host c) (sym (append-nil bytes))
 open-between host c (x ∷ mid) a bytes = between-step host c bytes x mid (a .0) (open-between host c mid (a .1))
 
 -- every own Send there is by the host of the Start
-sender-step : (host c : ℕ) (bytes : List ℕ) (x : Exchange) (mid : History) → Within c x → AllInTurn (by host c bytes) (x ∷ mid)
-    → ((b : List ℕ) → AllInTurn (by host c b) mid → All (λ z. SentBy host (kindOf z)) (ownSends c mid))
+sender-step : (host c : ℕ) (bytes : List ℕ) (x : Exchange) (mid : History) → Within c x → AllByStarter (by host c bytes) (x ∷ mid)
+    → ((b : List ℕ) → AllByStarter (by host c b) mid → All (λ z. SentBy host (kindOf z)) (ownSends c mid))
     → All (λ z. SentBy host (kindOf z)) (ownSends c (x ∷ mid))
 sender-step host c bytes x mid (inl q) t i =
-    rw (q .0) (own-sender host c bytes (kindOf x) (q .0) (t .0), i (bytes ++ pieceOf (kindOf x)) (subst (λ (o : Open). AllInTurn o mid) (own-opens host c bytes (kindOf x) (q .0)) (t .1)))
+    rw (q .0) (own-sender host c bytes (kindOf x) (q .0) (t .0), i (bytes ++ pieceOf (kindOf x)) (subst (λ (o : Open). AllByStarter o mid) (own-opens host c bytes (kindOf x) (q .0)) (t .1)))
 sender-step host c bytes x mid (inr q) t i =
-    rw (q .0) (i bytes (subst (λ (o : Open). AllInTurn o mid) (free-opens (by host c bytes) (kindOf x) (free-of x (q .1))) (t .1)))
+    rw (q .0) (i bytes (subst (λ (o : Open). AllByStarter o mid) (free-opens (by host c bytes) (kindOf x) (free-of x (q .1))) (t .1)))
 
-senders : (host c : ℕ) (mid : History) → All (Within c) mid → (bytes : List ℕ) → AllInTurn (by host c bytes) mid → All (λ z. SentBy host (kindOf z)) (ownSends c mid)
+senders : (host c : ℕ) (mid : History) → All (Within c) mid → (bytes : List ℕ) → AllByStarter (by host c bytes) mid → All (λ z. SentBy host (kindOf z)) (ownSends c mid)
 senders host c [] a bytes t = tt
 senders host c (x ∷ mid) a bytes t = sender-step host c bytes x mid (a .0) t (senders host c mid (a .1))
 
@@ -106,14 +106,14 @@ module _ (m : Module) (h : History) (f : FinishedIn h) where
   unfolding pre last
   whole = f .whole ∙ sym (append-assoc (f .before) (f .start ∷ f .between) last)
 
-  start-is : opens (openAfter none (f .before)) (kindOf (f .start)) ≡ by (f .starter) (f .context) []
-  start-is = ap (opens (openAfter none (f .before))) (f .starts)
+  start-is : openAfter (openAtEnd none (f .before)) (kindOf (f .start)) ≡ by (f .starter) (f .context) []
+  start-is = ap (openAfter (openAtEnd none (f .before))) (f .starts)
 
-  open-is : All (Within (f .context)) (f .between) → openAfter none pre ≡ by (f .starter) (f .context) (pieces (ownSends (f .context) (f .between)))
+  open-is : All (Within (f .context)) (f .between) → openAtEnd none pre ≡ by (f .starter) (f .context) (pieces (ownSends (f .context) (f .between)))
   unfolding pre
   open-is ins =
       open-join none (f .before) (f .start ∷ f .between)
-      ∙ ap (λ (o : Open). openAfter o (f .between)) start-is
+      ∙ ap (λ (o : Open). openAtEnd o (f .between)) start-is
       ∙ open-between (f .starter) (f .context) (f .between) ins []
 
   pub at-finish : Sound m → Fits none (storeOf m) → Plays inner m h → All Remains h → AtFinish m f
@@ -125,7 +125,7 @@ module _ (m : Module) (h : History) (f : FinishedIn h) where
 
       bytes : receivedBytes (end inner m pre .device .transfer) (end inner m pre .area) ≡ pieces (ownSends (f .context) (f .between))
       bytes =
-          bytes-open (openAfter none pre) (storeOf (end inner m pre))
+          bytes-open (openAtEnd none pre) (storeOf (end inner m pre))
           (fits-at none m pre sound w (plays-left inner m pre last q) (all-left Remains pre last (subst (All Remains) whole k)))
           (finish-at (end inner m pre) (f .finish) (f .finisher) (f .context) (f .flag) (f .finishes) (plays-right inner m pre last q .0) .at)
           ∙ ap bytesSoFar (open-is (between-within m f sound p k))
@@ -138,20 +138,20 @@ module _ (m : Module) (h : History) (f : FinishedIn h) where
       (sym (inwards m pre sound (plays-left machine m pre last (subst (λ (z : History). Plays machine m z) whole p)) (all-left Remains pre last (subst (All Remains) whole k)) .ends))
       ∙ at-finish sound w (inwards m h sound p k .plays) k .bytes-are
 
-  -- Each of its own Sends, and its Finish, is by the host of its Start, where the transfers stand in turn.
-  pub own-pieces : Sound m → Received m f → AllInTurn none h → Plays machine m h → All Remains h → OwnPieces m f
+  -- Each of its own Sends, and its Finish, is by the host of its Start, where each transfer is from one host.
+  pub own-pieces : Sound m → Received m f → AllByStarter none h → Plays machine m h → All Remains h → OwnPieces m f
   unfolding pre last
   own-pieces sound r t p k =
       record {
         received = r;
         one-sender =
             senders (f .starter) (f .context) (f .between) ins []
-            (subst (λ (o : Open). AllInTurn o (f .between)) start-is
-            (turns-left (opens (openAfter none (f .before)) (kindOf (f .start))) (f .between) last
-            (turns-right none (f .before) (f .start ∷ (f .between ++ last)) (subst (λ (z : History). AllInTurn none z) (f .whole) t) .1)));
+            (subst (λ (o : Open). AllByStarter o (f .between)) start-is
+            (by-left (openAfter (openAtEnd none (f .before)) (kindOf (f .start))) (f .between) last
+            (by-right none (f .before) (f .start ∷ (f .between ++ last)) (subst (λ (z : History). AllByStarter none z) (f .whole) t) .1)));
         one-finisher =
-            subst (λ (o : Open). InTurn o (Finished (f .finisher) (f .context) (f .flag))) (open-is ins)
-            (subst (λ (z : Kind). InTurn (openAfter none pre) z) (f .finishes) (turns-right none pre last (subst (λ (z : History). AllInTurn none z) whole t) .0)) .0;
+            subst (λ (o : Open). ByStarter o (Finished (f .finisher) (f .context) (f .flag))) (open-is ins)
+            (subst (λ (z : Kind). ByStarter (openAtEnd none pre) z) (f .finishes) (by-right none pre last (subst (λ (z : History). AllByStarter none z) whole t) .0));
       }
     where
       ins : All (Within (f .context)) (f .between)
@@ -171,7 +171,7 @@ Still : Open → History → (host context : ℕ) (bytes : List ℕ) → Type 0
 Still o h host context bytes = (first : List ℕ) × (o ≡ by host context first) × (bytes ≡ first ++ pieces (ownSends context h))
 
 opened-step : (o : Open) (x : Exchange) (h : History) (host context : ℕ) (bytes : List ℕ) (k : Kind) → kindOf x ≡ k → InOrder o k
-    → Still (opens o k) h host context bytes → Still o (x ∷ h) host context bytes ⊎ Opened (x ∷ h) host context bytes
+    → Still (openAfter o k) h host context bytes → Still o (x ∷ h) host context bytes ⊎ Opened (x ∷ h) host context bytes
 unfolding Still
 opened-step o x h host context bytes (Started j d) e t s =
     let same : by j d [] ≡ by host context (s .0) = s .1 in
@@ -199,16 +199,16 @@ opened-step o x h host context bytes Ticked e t s = inl (s .0, s .1, s .2 ∙ ap
 opened-step o x h host context bytes Powered e t s = let same : none ≡ by host context (s .0) = s .1 in let z : _≡_ {A = ℕ} 0 1 = cc in absurd (omega arith)
 opened-step o x h host context bytes Other e t s = inl (s .0, s .1, s .2 ∙ ap (λ (b : Bool). s .0 ++ pieces (keep b x (ownSends context h))) (sym (ap (isSendOf context) e)))
 
-opened-from : (o : Open) (h : History) (host context : ℕ) (bytes : List ℕ) → AllInOrder o h → openAfter o h ≡ by host context bytes → Still o h host context bytes ⊎ Opened h host context bytes
+opened-from : (o : Open) (h : History) (host context : ℕ) (bytes : List ℕ) → AllInOrder o h → openAtEnd o h ≡ by host context bytes → Still o h host context bytes ⊎ Opened h host context bytes
 unfolding Still
 opened-from o [] host context bytes t e = inl (bytes, e, sym (append-nil bytes))
-opened-from o (x ∷ h) host context bytes t e = go (opened-from (opens o (kindOf x)) h host context bytes (t .1) e)
+opened-from o (x ∷ h) host context bytes t e = go (opened-from (openAfter o (kindOf x)) h host context bytes (t .1) e)
   where
-    go : Still (opens o (kindOf x)) h host context bytes ⊎ Opened h host context bytes → Still o (x ∷ h) host context bytes ⊎ Opened (x ∷ h) host context bytes
+    go : Still (openAfter o (kindOf x)) h host context bytes ⊎ Opened h host context bytes → Still o (x ∷ h) host context bytes ⊎ Opened (x ∷ h) host context bytes
     go (inl s) = opened-step o x h host context bytes (kindOf x) refl (t .0) s
     go (inr p) = inr (record { before = x ∷ p .before; start = p .start; between = p .between; whole = ap (λ (z : History). x ∷ z) (p .whole); starts = p .starts; sent = p .sent })
 
-pub opened : (h : History) (host context : ℕ) (bytes : List ℕ) → AllInOrder none h → openAfter none h ≡ by host context bytes → Opened h host context bytes
+pub opened : (h : History) (host context : ℕ) (bytes : List ℕ) → AllInOrder none h → openAtEnd none h ≡ by host context bytes → Opened h host context bytes
 unfolding Still
 opened h host context bytes t e = go (opened-from none h host context bytes t e)
   where

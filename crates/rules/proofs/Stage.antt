@@ -2,9 +2,11 @@
 -- Assumes nothing.
 use Prim.Native.Nat.{ℕ, zero, suc, _≤_}
 use mathlib.Core.Path.{_≡_, refl, sym, _∙_, ap}
-use mathlib.Core.Bool.{Bool, true, false, _||_}
+use mathlib.Core.Logic.{_⊎_, inl, inr}
+use mathlib.Core.Bool.{Bool, true, false, _||_, _&&_}
 use mathlib.Core.List.{List, [], _∷_}
 use native.Mathlib.Omega.{arith}
+use borrow.Author.Tests.{eqb-true, eq-eqb}
 use Rattle.rules.specs.Tests.{if_then_else_, _=?_}
 use Rattle.rules.specs.Record.{_is_}
 use Rattle.rules.specs.Image.{imageOf}
@@ -15,18 +17,18 @@ use Rattle.rules.specs.Module.{Call, OnMask, OnThresholds, OnTransfer, O
 use Rattle.rules.specs.History.{end}
 use Rattle.rules.specs.Transfers.{Answer, machine, Exchange, History, Kind, Started, Sent, Finished, Other, callKind, kindOf}
 use Rattle.rules.specs.Sends.{tickCount, powerCount, powerCycles}
-use Rattle.rules.specs.Demand3.{Sound, Stages, StagedOnce}
+use Rattle.rules.specs.Demand3.{Sound, stagedWith, Stages, StagedOnce}
 use Rattle.rules.specs.declared.Verdict.the-variants.{Accepted}
 use Rattle.rules.specs.declared.Image.the-variants.{Good, Bad}
 use Rattle.rules.specs.declared.Phase.{Phase}
 use Rattle.rules.specs.declared.Phase.the-variants.{Receiving, Verifying, Staged}
 use Rattle.rules.specs.declared.Transfer.{Transfer}
-use Rattle.rules.proofs.Choice.{if-both}
+use Rattle.rules.proofs.Choice.{if-both, and-true}
 use Rattle.rules.proofs.Joining.{end-join}
 use Rattle.rules.proofs.Parts.{Store, storeOf, Act, Transfers, Others, Ticks, Powers, act, actOf, unserved?, misfit?, storeVerdict, storeChange, storeNext, storeTick, nexts, actKind}
 use Rattle.rules.proofs.Through.{shut, kind-act}
 use Rattle.rules.specs.Demand1.{bufferTooShort}
-use Rattle.rules.proofs.Facts.{never, start-ok, send-ok, finish-ok, Tick, calm, counting, good, bad, tick-case}
+use Rattle.rules.proofs.Facts.{never, is-phase, start-ok, send-ok, finish-ok, Tick, calm, counting, good, bad, tick-case}
 use Rattle.rules.proofs.Keeps.{store-when}
 use Rattle.rules.proofs.Possible.{sound-through, sound-next, sound-end}
 use Rattle.rules.proofs.Swap.{still}
@@ -93,14 +95,45 @@ event-tick (call host revision index request answer) e =
 event-tick tick e = refl
 event-tick power e = let z : _≡_ {A = ℕ} 0 1 = cc in absurd (omega arith)
 
+-- a module that is Staged stays as it is, but for a power cycle
+staged-act : (m : Module) (f : Act) → m .device .transfer .phase ≡ Staged → (f ≡ Powers) ⊎ (storeOf (nexts m f) ≡ storeOf m)
+staged-act m (Transfers host a b x n answer) p = inr (quiet (storeOf m) a b x (ap busy p))
+staged-act m (Others a b x n answer) p = inr refl
+staged-act m Ticks p = inr (still (storeOf m) (ap (λ (q : Phase). q is Verifying) p))
+staged-act m Powers p = inl refl
+
+-- Staged with a version: the phase, and the version
+record StagedAs (m : Module) (version : ℕ) : Type 0 where
+  phase : m .device .transfer .phase ≡ Staged
+  version-is : m .device .transfer .staged ≡ version
+
+staged-as : (m : Module) (version : ℕ) → stagedWith version m ≡ true → StagedAs m version
+staged-as m version e =
+    let q = and-true (m .device .transfer .phase is Staged) (m .device .transfer .staged =? version) e in
+    record { phase = is-phase (m .device .transfer .phase) Staged (q .0); version-is = eqb-true (m .device .transfer .staged) version (q .1) }
+
+-- no event stages another version over a staged one
+staged-over : (m : Module) (f : Act) (version : ℕ) → m .device .transfer .phase ≡ Staged → stagedWith version m ≡ false → stagedWith version (nexts m f) ≡ true → ⊥
+staged-over m f version p n y = go (staged-act m f p)
+  where
+    go : (f ≡ Powers) ⊎ (storeOf (nexts m f) ≡ storeOf m) → ⊥
+    go (inl e) = never (sym (ap (λ (q : Phase). q is Staged) (staged-as (nexts m f) version y .phase)) ∙ ap (λ (g : Act). nexts m g .device .transfer .phase is Staged) e)
+    go (inr e) = never (sym y ∙ ap (λ (s : Store). s .transfer .phase is Staged && s .transfer .staged =? version) e ∙ n)
+
+stages-next : (m : Module) (f : Act) (version : ℕ) → stagedWith version m ≡ false → stagedWith version (nexts m f) ≡ true → (f ≡ Ticks) × Ripe (storeOf m) version
+stages-next m f version n y = go (m .device .transfer .phase is Staged) refl
+  where
+    go : (b : Bool) → (m .device .transfer .phase is Staged) ≡ b → (f ≡ Ticks) × Ripe (storeOf m) version
+    go true e = absurd (staged-over m f version (is-phase (m .device .transfer .phase) Staged e) n y)
+    go false e = let q = staged-as (nexts m f) version y in stages-act m f version e (q .phase) (q .version-is)
+
 pub stages-ripe : (m : Module) (event : Event) (version : ℕ) → Sound m → Stages m event version → (event ≡ tick) × Ripe (storeOf m) version
 stages-ripe m event version w g = go (bufferTooShort event) refl
   where
     go : (b : Bool) → bufferTooShort event ≡ b → (event ≡ tick) × Ripe (storeOf m) version
-    go true e = never (sym (ap (λ (z : Phase). z is Staged) (g .staged)) ∙ ap (λ (u : Module). u .device .transfer .phase is Staged) (shut m event e .same) ∙ g .was)
+    go true e = never (sym (g .afterwards) ∙ ap (stagedWith version) (shut m event e .same) ∙ g .not-before)
     go false e =
-        let t = sound-through m event w e .nexts-as in
-        let q = stages-act m (act event) version (g .was) (ap (λ (u : Module). u .device .transfer .phase) (sym t) ∙ g .staged) (ap (λ (u : Module). u .device .transfer .staged) (sym t) ∙ g .with) in
+        let q = stages-next m (act event) version (g .not-before) (ap (stagedWith version) (sym (sound-through m event w e .nexts-as)) ∙ g .afterwards) in
         (event-tick event (q .0), q .1)
 
 tick-good : (s : Store) (version : ℕ) → Ripe s version → Tick (s .transfer) (s .area) → (storeTick s .transfer .phase ≡ Staged) × (storeTick s .transfer .staged ≡ version)
@@ -119,9 +152,11 @@ ripe-stages m version w r =
     let t = sound-through m tick w refl .nexts-as in
     let q = tick-good (storeOf m) version r (tick-case (m .device .transfer) (m .area)) in
     record {
-      was = ap (λ (z : Phase). z is Staged) (r .at);
-      staged = ap (λ (u : Module). u .device .transfer .phase) t ∙ q .0;
-      with = ap (λ (u : Module). u .device .transfer .staged) t ∙ q .1;
+      not-before = ap (λ (z : Phase). z is Staged && m .device .transfer .staged =? version) (r .at);
+      afterwards =
+          ap (stagedWith version) t
+          ∙ ap (λ (z : Phase). z is Staged && storeTick (storeOf m) .transfer .staged =? version) (q .0)
+          ∙ eq-eqb (storeTick (storeOf m) .transfer .staged) version (q .1);
     }
 
 -- a call counts neither as a tick nor as a power cycle
@@ -137,11 +172,12 @@ no-tick host (Finish flag context) got = no-tick-if (refused? (got .reply .verdi
 no-tick host (Query context) got = refl
 
 -- Staged stays until a power cycle
-staged-act : (m : Module) (f : Act) (got : Answer) → m .device .transfer .phase ≡ Staged → powerCount (actKind f got) ≡ 0 → nexts m f .device .transfer .phase ≡ Staged
-staged-act m (Transfers host a b x n answer) got p z = ap (λ (s : Store). s .transfer .phase) (quiet (storeOf m) a b x (ap busy p)) ∙ p
-staged-act m (Others a b x n answer) got p z = p
-staged-act m Ticks got p z = ap (λ (s : Store). s .transfer .phase) (still (storeOf m) (ap (λ (q : Phase). q is Verifying) p)) ∙ p
-staged-act m Powers got p z = absurd (omega arith)
+staged-next : (m : Module) (f : Act) (got : Answer) → m .device .transfer .phase ≡ Staged → powerCount (actKind f got) ≡ 0 → nexts m f .device .transfer .phase ≡ Staged
+staged-next m f got p z = go (staged-act m f p)
+  where
+    go : (f ≡ Powers) ⊎ (storeOf (nexts m f) ≡ storeOf m) → nexts m f .device .transfer .phase ≡ Staged
+    go (inl e) = absurd (omega (arith, ap (λ (g : Act). powerCount (actKind g got)) e))
+    go (inr e) = ap (λ (s : Store). s .transfer .phase) e ∙ p
 
 staged-step : (m : Module) (x : Exchange) → Sound m → m .device .transfer .phase ≡ Staged → powerCount (kindOf x) ≡ 0 → machine .next m (x .event) .device .transfer .phase ≡ Staged
 staged-step m x w p z = go (bufferTooShort (x .event)) refl
@@ -150,7 +186,7 @@ staged-step m x w p z = go (bufferTooShort (x .event)) refl
     go true e = ap (λ (u : Module). u .device .transfer .phase) (shut m (x .event) e .same) ∙ p
     go false e =
         ap (λ (u : Module). u .device .transfer .phase) (sound-through m (x .event) w e .nexts-as)
-        ∙ staged-act m (act (x .event)) (x .got) p (ap powerCount (sym (kind-act x)) ∙ z)
+        ∙ staged-next m (act (x .event)) (x .got) p (ap powerCount (sym (kind-act x)) ∙ z)
 
 staged-stays : (m : Module) (h : History) → Sound m → m .device .transfer .phase ≡ Staged → powerCycles h ≡ 0 → end machine m h .device .transfer .phase ≡ Staged
 staged-stays m [] w p z = p
@@ -163,7 +199,10 @@ staged-once m h w before between x event first second whole g l = go (powerCycle
   where
     go : (n : ℕ) → powerCycles between ≡ n → 1 ≤ powerCycles between
     go zero e =
-        never (sym (ap (λ (p : Phase). p is Staged) (staged-stays (machine .next (end machine m before) (x .event)) between (sound-next (end machine m before) (x .event) (sound-end m before w)) (g .staged) e))
+        let after-first : Module = machine .next (end machine m before) (x .event) in
+        let still-staged = staged-stays after-first between (sound-next (end machine m before) (x .event) (sound-end m before w)) (staged-as after-first first (g .afterwards) .phase) e in
+        let verifying = stages-ripe (end machine m h) event second (sound-end m h w) l .1 .at in
+        never (sym (ap (λ (p : Phase). p is Staged) still-staged)
         ∙ ap (λ (u : Module). u .device .transfer .phase is Staged) (sym (ap (end machine m) whole ∙ end-join machine m before (x ∷ between)))
-        ∙ l .was)
+        ∙ ap (λ (p : Phase). p is Staged) verifying)
     go (suc n) e = omega arith

@@ -7,7 +7,7 @@ use mathlib.Core.List.{List, [], _∷_}
 use native.Mathlib.Omega.{arith}
 use Rattle.rules.specs.Module.{Module}
 use Rattle.rules.specs.History.{Plays, All}
-use Rattle.rules.specs.Transfers.{Exchange, History, Kind, Started, Sent, Finished, Ticked, Powered, Other, kindOf, Open, none, by, withPiece, opens, OfOpen, InTurn, AllInTurn, InOpen, InOrder}
+use Rattle.rules.specs.Transfers.{Exchange, History, Kind, Started, Sent, Finished, Ticked, Powered, Other, kindOf, Open, none, by, withPiece, openAfter, InOpen, InOrder, StarterIs, ByStarter, AllByStarter}
 use Rattle.rules.specs.Demand3.{AnsweredTo, HonestAfter, Sound}
 use Rattle.rules.proofs.Parts.{Store, storeOf, act, inner}
 use Rattle.rules.proofs.Possible.{sound-act}
@@ -60,30 +60,30 @@ hosts-start past x o m host context e b w = record { sole = sole; below = below 
     sole j (inl q) = let same : Started j context ≡ Started host context = sym q ∙ e in cc
     sole j (inr r) = absurd (omega (arith, w .below j context r, b .next-number))
 
--- of the open transfer, by its host
-of-open : (past : History) (o : Open) (host context : ℕ) → Sole past o → InOpen o context → AnsweredTo host context past → OfOpen o host context
-of-open past none host context s i m = absurd i
-of-open past (by starter c bytes) host context s i m = (s host (subst (λ (n : ℕ). AnsweredTo host n past) i m), i)
+-- a host that was answered the open transfer's context is its starter
+starter-is : (past : History) (o : Open) (host context : ℕ) → Sole past o → InOpen o context → AnsweredTo host context past → StarterIs o host
+starter-is past none host context s i m = absurd i
+starter-is past (by starter c bytes) host context s i m = s host (subst (λ (n : ℕ). AnsweredTo host n past) i m)
 
 record Turned (past : History) (x : Exchange) (o : Open) (k : Kind) (u : Store) : Type 0 where
-  turn : InTurn o k
-  hosts : Hosts (x ∷ past) (opens o k) u
+  turn : ByStarter o k
+  hosts : Hosts (x ∷ past) (openAfter o k) u
 
 turned : (past : History) (x : Exchange) (o : Open) (m : Module) (k : Kind) → kindOf x ≡ k → Sound m → inner .answer m (x .event) ≡ x .got → Hosts past o (storeOf m) → InOrder o k → UsesKind past k
     → (NoStart k → given (storeOf (inner .next m (x .event))) ≡ given (storeOf m)) → Turned past x o k (storeOf (inner .next m (x .event)))
-turned past x o m (Started host context) e sound p w i u g = record { turn = i; hosts = hosts-start past x o m host context e (begun m x host context sound e p) w }
+turned past x o m (Started host context) e sound p w i u g = record { turn = tt; hosts = hosts-start past x o m host context e (begun m x host context sound e p) w }
 turned past x o m (Sent host context offset piece) e sound p w i u g =
-    record { turn = (of-open past o host context (w .sole) (i .0) u, i .1); hosts = add past x (Sent host context offset piece) o (withPiece o piece) (storeOf m) _ e tt w (sole-piece past o piece (w .sole)) (g tt) }
+    record { turn = starter-is past o host context (w .sole) (i .0) u; hosts = add past x (Sent host context offset piece) o (withPiece o piece) (storeOf m) _ e tt w (sole-piece past o piece (w .sole)) (g tt) }
 turned past x o m (Finished host context flag) e sound p w i u g =
-    record { turn = of-open past o host context (w .sole) i u; hosts = add past x (Finished host context flag) o none (storeOf m) _ e tt w tt (g tt) }
+    record { turn = starter-is past o host context (w .sole) i u; hosts = add past x (Finished host context flag) o none (storeOf m) _ e tt w tt (g tt) }
 turned past x o m Ticked e sound p w i u g = record { turn = tt; hosts = add past x Ticked o o (storeOf m) _ e tt w (w .sole) (g tt) }
 turned past x o m Powered e sound p w i u g = record { turn = tt; hosts = add past x Powered o none (storeOf m) _ e tt w tt (g tt) }
 turned past x o m Other e sound p w i u g = record { turn = tt; hosts = add past x Other o o (storeOf m) _ e tt w (w .sole) (g tt) }
 
--- what remains of an honest history stands in turn
-pub turns : (past : History) (o : Open) (m : Module) (h : History) → Sound m → Fits o (storeOf m) → Hosts past o (storeOf m) → HonestAfter past h → Plays inner m h → All Remains h → AllInTurn o h
-turns past o m [] s f w u p k = tt
-turns past o m (x ∷ h) s f w u p k =
+-- in what remains of an honest history each transfer is from one host
+pub one-host : (past : History) (o : Open) (m : Module) (h : History) → Sound m → Fits o (storeOf m) → Hosts past o (storeOf m) → HonestAfter past h → Plays inner m h → All Remains h → AllByStarter o h
+one-host past o m [] s f w u p k = tt
+one-host past o m (x ∷ h) s f w u p k =
     let g = goes x o m s f (p .0) (k .0) in
     let t = turned past x o m (kindOf x) refl s (p .0) w (g .order) (g .used past (uses-act past (x .event) (u .0))) (g .same-given) in
-    (t .turn, turns (x ∷ past) (opens o (kindOf x)) (inner .next m (x .event)) h (sound-act m (act (x .event)) s) (g .fits) (t .hosts) (u .1) (p .1) (k .1))
+    (t .turn, one-host (x ∷ past) (openAfter o (kindOf x)) (inner .next m (x .event)) h (sound-act m (act (x .event)) s) (g .fits) (t .hosts) (u .1) (p .1) (k .1))

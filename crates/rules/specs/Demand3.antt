@@ -3,17 +3,17 @@
 use Prim.Native.Nat.{ℕ, _≤_, _<_}
 use mathlib.Core.Path.{_≡_}
 use mathlib.Core.Logic.{_⊎_, _↔_}
-use mathlib.Core.Bool.{Bool, true, false}
+use mathlib.Core.Bool.{Bool, true, false, _&&_}
 use mathlib.Core.List.{List, [], _∷_}
 use lib.ListN.{length}
 use Rattle.rules.specs.Tests.{_=?_}
-use Rattle.rules.specs.Numbers.{areaSize, lastContext}
+use Rattle.rules.specs.Numbers.{areaSize, lastContext, verification}
 use Rattle.rules.specs.Record.{_is_, fresh, possible}
 use Rattle.rules.specs.Image.{imageOf}
 use Rattle.rules.specs.Transfer.{GetFwInfo, Start, Send, Finish, Query, receivedBytes}
-use Rattle.rules.specs.Module.{Call, OnMask, OnThresholds, OnTransfer, OnSecurity, OnNothing, Module, Event, call, tick, power, outOf, callIn}
+use Rattle.rules.specs.Module.{Call, OnMask, OnThresholds, OnTransfer, OnSecurity, OnNothing, Module, Event, call, tick, power, outOf, after, callIn}
 use Rattle.rules.specs.History.{historyOf, end, Same, only, All, _and-then_}
-use Rattle.rules.specs.Transfers.{machine, Exchange, History, Started, kindOf, none, AllInTurn, AllInOrder}
+use Rattle.rules.specs.Transfers.{machine, Exchange, History, Started, Finished, kindOf, none, AllInOrder, AllByStarter}
 use Rattle.rules.specs.Sends.{ownSends, pieces, SentBy, FinishedIn, ticksIn, powerCycles}
 use Rattle.rules.specs.Moves.{moved, ByMoves, rearranged, Unbroken}
 use Rattle.rules.specs.declared.Refusal.the-variants.{R, Status}
@@ -74,9 +74,13 @@ struck h = only (λ x. remains (x .got .reply .verdict)) h
 abbrev pub StrikeOut : Module → History → Type 0
 StrikeOut m h = Same machine m h (struck h)
 
--- "Its transfers stand one after another, each from one host."
+-- "Its transfers stand one after another,"
 abbrev pub OneAfterAnother : History → Type 0
-OneAfterAnother h = AllInTurn none h
+OneAfterAnother h = AllInOrder none h
+
+-- "each from one host."
+abbrev pub EachFromOneHost : History → Type 0
+EachFromOneHost h = AllByStarter none h
 
 -- the module as the transfer's Finish finds it
 abbrev pub atFinish : Module → {h : History} → FinishedIn h → Module
@@ -104,11 +108,14 @@ pub record AllMoved (m : Module) (h : History) : Type 0 where
   pub unbroken : (f : FinishedIn h) → Unbroken (rearranged h) f
   pub same : Same machine m h (rearranged h)
 
--- The event stages the version: the phase was another, and is Staged afterwards, with this version.
+-- whether the module is Staged with this version
+abbrev pub stagedWith : (version : ℕ) → Module → Bool
+stagedWith version m = m .device .transfer .phase is Staged && m .device .transfer .staged =? version
+
+-- The event stages the version: the module was not Staged with it before, and is afterwards.
 pub record Stages (m : Module) (event : Event) (version : ℕ) : Type 0 where
-  pub was : (m .device .transfer .phase is Staged) ≡ false
-  pub staged : outOf m event .device .transfer .phase ≡ Staged
-  pub with : outOf m event .device .transfer .staged ≡ version
+  pub not-before : stagedWith version m ≡ false
+  pub afterwards : stagedWith version (after (outOf m event)) ≡ true
 
 -- A staging is due: the history has an accepted, non-abort Finish of a transfer whose pieces, joined, are a good image of this version; after it come
 -- exactly seven ticks, no power cycle, and any other calls.
@@ -134,6 +141,16 @@ StagedOnce m h =
     → Stages (end machine m h) event second
     → 1 ≤ powerCycles between
 
+-- One image waits at a time, so that no two accepted Finishes share a staging: between an accepted, non-abort Finish and a later Start there are eight ticks
+-- or a power cycle.
+abbrev pub OneWaits : History → Type 0
+OneWaits h =
+    (before between since : History) (x y : Exchange) (host other finished started : ℕ)
+    → h ≡ before and-then x ∷ between and-then y ∷ since
+    → kindOf x ≡ Finished host finished 0
+    → kindOf y ≡ Started other started
+    → (verification ≤ ticksIn between) ⊎ (1 ≤ powerCycles between)
+
 -- "Numbers outlive power cycles and are never given again": of two Starts of a history the later is answered the higher number.
 abbrev pub NeverAgain : History → Type 0
 NeverAgain h =
@@ -147,11 +164,13 @@ NeverAgain h =
 pub record Demand3Of (m : Module) (h : History) : Type 0 where
   pub strike-out : StrikeOut m h
   pub one-after-another : OneAfterAnother (struck h)
+  pub each-from-one-host : EachFromOneHost (struck h)
   pub own-pieces : (f : FinishedIn (struck h)) → OwnPieces m f
   pub move : Move m (struck h)
   pub all-moved : AllMoved m (struck h)
   pub staged-exactly : StagedExactly m h
   pub staged-once : StagedOnce m h
+  pub one-waits : OneWaits (struck h)
   pub never-again : NeverAgain (struck h)
 
 -- "Begin with a fresh module, .. and let hosts' calls, ticks and power cycles come in any order, each host using only context numbers that a Start answered
@@ -181,14 +200,16 @@ pub record FromAnywhere (m : Module) (h : History) : Type 0 where
   pub move : Move m (struck h)
   pub all-moved : AllMoved m (struck h)
   pub staged-once : StagedOnce m h
+  pub one-waits : OneWaits (struck h)
   pub never-again : NeverAgain (struck h)
 
 abbrev pub DemandFromAnywhere : Type 0
 DemandFromAnywhere = (m : Module) → Sound m → (events : List Event) → FromAnywhere m (historyOf machine m events)
 
--- What holds from a fresh module, whatever contexts the hosts use. Only "each from one host" is left: it alone needs honest hosts.
+-- What `FromAnywhere` does not say yet, from a fresh module, whatever contexts the hosts use. Only "each from one host" is left out: it alone needs honest
+-- hosts.
 pub record WithAnyHosts (m : Module) (h : History) : Type 0 where
-  pub one-after-another : AllInOrder none (struck h)
+  pub one-after-another : OneAfterAnother (struck h)
   pub received : (f : FinishedIn (struck h)) → Received m f
   pub staged-exactly : StagedExactly m h
 

@@ -1,4 +1,4 @@
--- Demand 3's words: the module's histories, what an exchange is to the transfers, which transfer is open, and whose turn it is.
+-- Demand 3's words: the module's histories, what an exchange is to the transfers, which transfer is open, in what order they stand, and from which host.
 -- Assumes nothing.
 use Prim.Native.Nat.{ℕ}
 use mathlib.Core.Path.{_≡_}
@@ -84,40 +84,21 @@ abbrev pub withPiece : Open → (piece : List ℕ) → Open
 withPiece none piece = none
 withPiece (by host context bytes) piece = by host context (bytes ++ piece)
 
--- A Start opens a transfer; its Finish closes it, and so does a power cycle.
-abbrev pub opens : Open → Kind → Open
-opens now (Started host context) = by host context []
-opens now (Sent host context offset piece) = withPiece now piece
-opens now (Finished host context flag) = none
-opens now Ticked = now
-opens now Powered = none
-opens now Other = now
-
--- of the open transfer: by the host that started it, with its context
-abbrev pub OfOpen : Open → (host context : ℕ) → Type 0
-OfOpen none host context = ⊥
-OfOpen (by starter given bytes) host context = (host ≡ starter) × (context ≡ given)
-
--- A Start comes where no transfer is open. A Send is of the open transfer, and goes on where the last one stopped. A Finish is of the open transfer.
-abbrev pub InTurn : Open → Kind → Type 0
-InTurn now (Started host context) = now ≡ none
-InTurn now (Sent host context offset piece) = OfOpen now host context × (offset ≡ length (bytesSoFar now))
-InTurn now (Finished host context flag) = OfOpen now host context
-InTurn now Ticked = Unit {0}
-InTurn now Powered = Unit {0}
-InTurn now Other = Unit {0}
-
--- every exchange comes in its turn
-abbrev pub AllInTurn : Open → History → Type 0
-AllInTurn now [] = Unit {0}
-AllInTurn now (x ∷ h) = InTurn now (kindOf x) × AllInTurn (opens now (kindOf x)) h
+-- which one is open afterwards: a Start opens a transfer; its Finish closes it, and so does a power cycle
+abbrev pub openAfter : Open → Kind → Open
+openAfter now (Started host context) = by host context []
+openAfter now (Sent host context offset piece) = withPiece now piece
+openAfter now (Finished host context flag) = none
+openAfter now Ticked = now
+openAfter now Powered = none
+openAfter now Other = now
 
 -- the context of the open transfer
 abbrev pub InOpen : Open → (context : ℕ) → Type 0
 InOpen none context = ⊥
 InOpen (by host given bytes) context = context ≡ given
 
--- in its turn, whoever calls
+-- A Start comes where no transfer is open. A Send has the open transfer's context, and goes on where the last one stopped. A Finish has its context.
 abbrev pub InOrder : Open → Kind → Type 0
 InOrder now (Started host context) = now ≡ none
 InOrder now (Sent host context offset piece) = InOpen now context × (offset ≡ length (bytesSoFar now))
@@ -126,7 +107,26 @@ InOrder now Ticked = Unit {0}
 InOrder now Powered = Unit {0}
 InOrder now Other = Unit {0}
 
--- every exchange comes in its turn, whoever calls
+-- every exchange comes in order
 abbrev pub AllInOrder : Open → History → Type 0
 AllInOrder now [] = Unit {0}
-AllInOrder now (x ∷ h) = InOrder now (kindOf x) × AllInOrder (opens now (kindOf x)) h
+AllInOrder now (x ∷ h) = InOrder now (kindOf x) × AllInOrder (openAfter now (kindOf x)) h
+
+-- the host that started the open transfer
+abbrev pub StarterIs : Open → (host : ℕ) → Type 0
+StarterIs none host = ⊥
+StarterIs (by starter given bytes) host = host ≡ starter
+
+-- A Send or a Finish is by the host that started the open transfer.
+abbrev pub ByStarter : Open → Kind → Type 0
+ByStarter now (Started host context) = Unit {0}
+ByStarter now (Sent host context offset piece) = StarterIs now host
+ByStarter now (Finished host context flag) = StarterIs now host
+ByStarter now Ticked = Unit {0}
+ByStarter now Powered = Unit {0}
+ByStarter now Other = Unit {0}
+
+-- every Send and every Finish is
+abbrev pub AllByStarter : Open → History → Type 0
+AllByStarter now [] = Unit {0}
+AllByStarter now (x ∷ h) = ByStarter now (kindOf x) × AllByStarter (openAfter now (kindOf x)) h
