@@ -5,7 +5,7 @@ ghost use Prim.Native.Nat.{ℕ, _≤_, _-_};
 ghost use lib.ListN.{length};
 ghost use Rattle.rules.specs.Bytes.{zeros};
 ghost use Rattle.rules.specs.Refusals.{statusBytes, statusLength, answerAfter};
-ghost use Rattle.rules.specs.Module.{callOf, accepted};
+ghost use Rattle.rules.specs.Module.{callOf, acceptedAnswer};
 use rules::Device;
 use rules::Function;
 
@@ -34,7 +34,7 @@ pub fn put_status(answer: &mut [u8], status: u16, ext: u16, size: usize)
 // What an accepted call answers, which its request has no part in.
 pub fn put_accepted(d: Device, function: Function, revision: u64, answer: &mut [u8])
     requires { ⌜ 64 ≤ length (now answer) ⌝ }
-    ensures { λ r. ⌜ ((request : List ℕ) → now (answer .exit) ≡ answerAfter (accepted d (callOf function revision request)) (now (answer .entry))) ⌝ }
+    ensures { λ r. ⌜ ((request : List ℕ) → now (answer .exit) ≡ answerAfter (acceptedAnswer d (callOf function revision request)) (now (answer .entry))) ⌝ }
 {
     match function {
         Function::Mask => base::put_at(answer, 0, 4, table::mask(revision) as u64),

@@ -10,7 +10,7 @@ use Rattle.rules.specs.Tests.{if_then_else_, _=?_}
 use Rattle.rules.specs.Bytes.{zeros}
 use Rattle.rules.specs.Refusals.{verdict, eventChecks, statusBytes, statusLength, answerAfter, recordLeft}
 use Rattle.rules.specs.Table.{rowOf, servedCheck, lengthCheck}
-use Rattle.rules.specs.Module.{Result, callOf, checks, accepted, change, changeArea, gateChecks, callChecks, outcome, happened, callResult}
+use Rattle.rules.specs.Module.{Result, callOf, checks, acceptedAnswer, change, changeArea, gateChecks, callChecks, outcome, happened, callResult}
 use Rattle.rules.specs.declared.Refusal.{Refusal}
 use Rattle.rules.specs.declared.Refusal.the-variants.{R, Status}
 use Rattle.rules.specs.declared.Verdict.{Verdict}
@@ -49,7 +49,7 @@ module _ (d : Device) (area : List ℕ) (revision index : ℕ) (request answer :
       → v ≡ judged → v ≡ Accepted → o ≡ given device v (row .answer)
       → device ≡ change d (callOf (row .function) revision request)
       → area′ ≡ changeArea (callOf (row .function) revision request) area
-      → answer′ ≡ answerAfter (accepted d (callOf (row .function) revision request)) answer
+      → answer′ ≡ answerAfter (acceptedAnswer d (callOf (row .function) revision request)) answer
       → Promised result o area′ answer′
   as-accepted j e k f g h = settled Accepted j e k (record { reply-is = refl; device-is = f; area-is = g; answer-is = h })
 

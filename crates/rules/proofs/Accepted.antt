@@ -1,11 +1,11 @@
 -- What it says of a call that its checks have passed.
 -- Assumes nothing.
-use mathlib.Core.Path.{_≡_, refl}
-use mathlib.Core.Bool.{Bool, true, false, not, _||_, true≢false}
+use mathlib.Core.Path.{_≡_}
+use mathlib.Core.Bool.{not, _||_}
 use mathlib.Core.List.{List}
 use Prim.Native.Nat.{ℕ, _+_, _≤_}
 use lib.ListN.{length}
-use borrow.Author.Tests.{eqb-true, eqb-false, ltb-false}
+use borrow.Author.Tests.{eqb-true, eqb-false, ltb-false, not-false}
 use Rattle.rules.specs.Tests.{_=?_, _<?_}
 use Rattle.rules.specs.Numbers.{areaSize, longestPiece, lastContext}
 use Rattle.rules.specs.Refusals.{verdict}
@@ -15,22 +15,17 @@ use Rattle.rules.specs.declared.Transfer.{Transfer}
 use Rattle.rules.proofs.Choice.{or-false}
 use Rattle.rules.proofs.Passed.{passed}
 
-pub not-false : (b : Bool) → not b ≡ false → b ≡ true
-not-false true e = refl
-not-false false e = absurd (true≢false e)
-
 -- a Start that is accepted: a number is left to give
 pub start-left : (t : Transfer) → verdict (startChecks t) ≡ Accepted → t .contexts ≡ lastContext → ⊥
 start-left t e = eqb-false (t .contexts) lastContext (passed (startChecks t) e .1 .1 .0)
 
--- a Send that is accepted: its length is that of its piece, it ends inside the area, and it goes on where the last one stopped
-pub record SendFits (t : Transfer) (offset size : ℕ) (piece : List ℕ) : Type 0 where
+-- a Send that is accepted: its length is that of its piece, and it ends inside the area
+pub record SendFits (offset size : ℕ) (piece : List ℕ) : Type 0 where
   pub whole : size ≡ length piece
   pub inside : offset + size ≤ areaSize
-  pub goes-on : offset ≡ t .received
 
 pub send-fits : (t : Transfer) (context offset size : ℕ) (piece : List ℕ) → verdict (sendChecks t context offset size piece) ≡ Accepted
-    → SendFits t offset size piece
+    → SendFits offset size piece
 send-fits t context offset size piece e =
     let tests = passed (sendChecks t context offset size piece) e in
     let long = or-false (not (size =? length piece) || size =? 0 || longestPiece <? size) (areaSize <? offset + size) (tests .0) in
@@ -39,5 +34,4 @@ send-fits t context offset size piece e =
     record {
       whole = eqb-true size (length piece) (not-false (size =? length piece) (exact .0));
       inside = ltb-false areaSize (offset + size) (long .1);
-      goes-on = eqb-true offset (t .received) (not-false (offset =? t .received) (tests .1 .1 .0));
     }

@@ -1,11 +1,8 @@
--- What the outcome of a choice by tests says of the tests.
+-- What the outcome of tests that are joined says of each.
+-- Assumes nothing.
 use mathlib.Core.Path.{_≡_, refl}
 use mathlib.Core.Bool.{Bool, true, false, _&&_, _||_, false≢true, true≢false}
 use Rattle.rules.specs.Tests.{if_then_else_}
-
-pub else-of : {A : Type 0} (t : Bool) {a b x : A} → (a ≡ x → ⊥) → (if t then a else b) ≡ x → (t ≡ false) × (b ≡ x)
-else-of true n e = absurd (n e)
-else-of false n e = (refl, e)
 
 pub or-false : (a b : Bool) → (a || b) ≡ false → (a ≡ false) × (b ≡ false)
 or-false true b e = absurd (true≢false e)

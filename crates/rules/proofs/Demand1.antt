@@ -8,7 +8,7 @@ use lib.ListN.{length, take}
 use Rattle.rules.specs.Bytes.{zeros}
 use Rattle.rules.specs.Refusals.{Check, _gives_, verdict, statusBytes, statusLength, answerAfter}
 use Rattle.rules.specs.Table.{table, rowOf}
-use Rattle.rules.specs.Module.{Call, callOf, checks, accepted, callChecks, outcome, callResult}
+use Rattle.rules.specs.Module.{Call, callOf, checks, acceptedAnswer, callChecks, outcome, callResult}
 use Rattle.rules.specs.Demand1.{numbered, column, RefusedBy, Answered, OfCall, Demand1}
 use Rattle.rules.specs.declared.Function.{Function}
 use Rattle.rules.specs.declared.Function.the-variants.{Mask, GetThreshold, GetFwInfo, Start, Send, Finish, Query, SetThreshold, GetSecurityState, SetPassphrase, Disable, Unlock, Freeze, Unserved}
@@ -95,7 +95,7 @@ numbers-of n (R number) allowed = allowed
 numbers-of n (Status status ext) allowed = allowed .0
 
 -- an accepted call's bytes have the function's length, and begin with status 0
-accepted-long : (d : Device) (f : Function) (revision : ℕ) (request : List ℕ) → length (accepted d (callOf f revision request)) ≡ answerOf f
+accepted-long : (d : Device) (f : Function) (revision : ℕ) (request : List ℕ) → length (acceptedAnswer d (callOf f revision request)) ≡ answerOf f
 accepted-long d Mask revision request = refl
 accepted-long d GetThreshold revision request = refl
 accepted-long d GetFwInfo revision request = refl
@@ -111,7 +111,7 @@ accepted-long d Unlock revision request = refl
 accepted-long d Freeze revision request = refl
 accepted-long d Unserved revision request = refl
 
-accepted-begins : (d : Device) (f : Function) (revision : ℕ) (request : List ℕ) → (f ≡ Mask → ⊥) → take 4 (accepted d (callOf f revision request)) ≡ zeros 4
+accepted-begins : (d : Device) (f : Function) (revision : ℕ) (request : List ℕ) → (f ≡ Mask → ⊥) → take 4 (acceptedAnswer d (callOf f revision request)) ≡ zeros 4
 accepted-begins d Mask revision request other = absurd (other refl)
 accepted-begins d GetThreshold revision request other = refl
 accepted-begins d GetFwInfo revision request other = refl
@@ -147,7 +147,7 @@ module _ (d : Device) (area : List ℕ) (revision index : ℕ) (request answer :
   answered e =
       subst (λ (v : Verdict). Answered (rowOf index) answer (outcome v d area (callOf (rowOf index .function) revision request) (rowOf index .answer) answer)) (sym e)
       (record {
-        bytes = accepted d (callOf (rowOf index .function) revision request);
+        bytes = acceptedAnswer d (callOf (rowOf index .function) revision request);
         written = refl;
         long = accepted-long d (rowOf index .function) revision request ∙ sym (table-answers index);
         told = refl;

@@ -6,7 +6,7 @@ use mathlib.Core.List.{List}
 use Prim.Native.Nat.{ℕ, _≤_}
 use lib.Dec.{lit≤}
 use lib.ListN.{length}
-use borrow.Author.Tests.{eqb-true, leb-true}
+use borrow.Author.Tests.{eqb-true, leb-true, not-false}
 use Rattle.rules.specs.Tests.{_=?_}
 use Rattle.rules.specs.Table.{table, rowOf, fits?}
 use Rattle.rules.specs.Refusals.{verdict}
@@ -16,7 +16,6 @@ use Rattle.rules.specs.declared.Device.{Device}
 use Rattle.rules.specs.declared.Verdict.the-variants.{Accepted}
 use Rattle.rules.proofs.Rows.{looked-up}
 use Rattle.rules.proofs.Passed.{passed}
-use Rattle.rules.proofs.Accepted.{not-false}
 use Rattle.rules.specs.declared.Function.{Function}
 use Rattle.rules.specs.declared.Function.the-variants.{Mask, GetThreshold, GetFwInfo, Start, Send, Finish, Query, SetThreshold, GetSecurityState, SetPassphrase, Disable, Unlock, Freeze, Unserved}
 

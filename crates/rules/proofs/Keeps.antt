@@ -25,7 +25,7 @@ use Rattle.rules.specs.declared.Phase.{Phase}
 use Rattle.rules.specs.declared.Phase.the-variants.{Idle, Receiving, Verifying, Staged, Failed}
 use Rattle.rules.specs.declared.Transfer.{Transfer}
 use Rattle.rules.specs.declared.Security.{Security}
-use Rattle.rules.proofs.Choice.{or-false, and-true, if-both}
+use Rattle.rules.proofs.Choice.{or-false, and-true, and-6, if-both}
 use Rattle.rules.proofs.Parts.{Store, Rest, storeOf, restOf, RestCall, Masks, Limits, Locks, Nothing, Act, Transfers, Others, Ticks, Powers, storeVerdict, storeChange, storeAfter, storeTick, restAfter, restChange, restChecks, restNext, restPower, nexts}
 use Rattle.rules.proofs.Through.{mild}
 use Rattle.rules.proofs.Facts.{never, start-ok, send-ok, finish-ok, Tick, calm, counting, good, bad, tick-case}
@@ -43,7 +43,7 @@ pub record StoreOk (s : Store) : Type 0 where
   pub in-phase : PhaseOk (s .transfer .phase) (s .transfer)
   pub size : length (s .area) ≡ areaSize
 
--- the six tests of a possible record's transfer part
+-- the and-6 tests of a possible record's transfer part
 abbrev test : Phase → Transfer → Bool
 test p t =
     (1 ≤? t .contexts unless p is Idle)
@@ -53,17 +53,8 @@ test p t =
     && (t .ticks =? 0 unless p is Verifying)
     && (t .staged =? 0 unless p is Staged)
 
-six : (a b c d e f : Bool) → (a && b && c && d && e && f) ≡ true → (a ≡ true) × (b ≡ true) × (c ≡ true) × (d ≡ true) × (e ≡ true) × (f ≡ true)
-six a b c d e f h =
-    let h₁ = and-true (a && b && c && d && e) f h in
-    let h₂ = and-true (a && b && c && d) e (h₁ .0) in
-    let h₃ = and-true (a && b && c) d (h₂ .0) in
-    let h₄ = and-true (a && b) c (h₃ .0) in
-    let h₅ = and-true a b (h₄ .0) in
-    (h₅ .0, h₅ .1, h₄ .1, h₃ .1, h₂ .1, h₁ .1)
-
 tests : (p : Phase) (t : Transfer) → test p t ≡ true → (t .received ≤ areaSize) × PhaseOk p t
-tests p t e = at p (six (1 ≤? t .contexts unless p is Idle) (t .received ≤? areaSize) (p is Idle implies t .received =? 0) (p is Verifying implies 1 ≤? t .ticks && t .ticks ≤? verification)
+tests p t e = at p (and-6 (1 ≤? t .contexts unless p is Idle) (t .received ≤? areaSize) (p is Idle implies t .received =? 0) (p is Verifying implies 1 ≤? t .ticks && t .ticks ≤? verification)
     (t .ticks =? 0 unless p is Verifying) (t .staged =? 0 unless p is Staged) e)
   where
     at : (q : Phase) → ((1 ≤? t .contexts unless q is Idle) ≡ true) × ((t .received ≤? areaSize) ≡ true) × ((q is Idle implies t .received =? 0) ≡ true)
@@ -180,9 +171,9 @@ accept : (r : Rest) (x : RestCall) → RestOk (restChange r x) → RestOk (restA
 unfolding verdict
 accept r x w = w
 
-relock : (e l : Bool) → (l implies e) ≡ true → (e implies e) ≡ true
-relock true l h = refl
-relock false l h = refl
+relock : (e : Bool) → (e implies e) ≡ true
+relock true = refl
+relock false = refl
 
 lock-next : (r : Rest) (x : SecurityCall) → RestOk r → RestOk (restAfter (verdict (securityChecks (r .security) x)) r (Locks x))
 unfolding zeros?
@@ -230,7 +221,7 @@ ok-next m Powers w =
     record {
       stores = record { within = omega arith; in-phase = (refl, refl, refl); size = w .stores .size };
       rests = record {
-        locks = relock (m .device .security .enabled) (m .device .security .locked) (w .rests .locks);
+        locks = relock (m .device .security .enabled);
         phrase = w .rests .phrase;
         tries = omega arith;
         bits = w .rests .bits;

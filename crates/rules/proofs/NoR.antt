@@ -5,7 +5,7 @@ use mathlib.Core.Bool.{Bool, true, false, not, _&&_}
 use mathlib.Core.List.{List, _∷_, _++_}
 use Prim.Native.Nat.{ℕ, _≤_}
 use lib.ListN.{length}
-use borrow.Author.Tests.{eqb-true, leb-true, ltb-false}
+use borrow.Author.Tests.{eqb-true, leb-true, ltb-false, not-false}
 use Rattle.rules.specs.Tests.{_≤?_, _<?_, _=?_, _implies_, _unless_}
 use Rattle.rules.specs.Bytes.{zeros?}
 use Rattle.rules.specs.Numbers.{areaSize, answerRoom, verification, attemptLimit}
@@ -17,7 +17,6 @@ use Rattle.rules.specs.declared.Verdict.{Verdict}
 use Rattle.rules.specs.declared.Verdict.the-variants.{Accepted, Refused}
 use Rattle.rules.specs.declared.Device.{Device}
 use Rattle.rules.proofs.Choice.{and-3, and-6}
-use Rattle.rules.proofs.Accepted.{not-false}
 
 -- the verdict is no R number
 abbrev pub NoR : Verdict → Type 0

@@ -4,8 +4,7 @@ use Prim.Native.Nat.{ℕ}
 use mathlib.Core.Path.{_≡_, refl}
 use mathlib.Core.Bool.{false, true≢false}
 use mathlib.Core.List.{List}
-use native.Mathlib.Omega.{arith}
-use Rattle.rules.specs.Refusals.{verdict, eventChecks, oneAttemptMore}
+use Rattle.rules.specs.Refusals.{verdict, eventChecks}
 use Rattle.rules.specs.Table.{rowOf}
 use Rattle.rules.specs.Module.{Call, Module, Event, call, tick, power, after, outcome, happened, callChecks, callResult, tickResult, powerResult, outOf, callIn}
 use Rattle.rules.specs.History.{Plays}
@@ -34,20 +33,6 @@ leaves m (call host revision index request answer) e =
     outcome-leaves (verdict (callChecks (m .device) (m .area) revision index request answer)) (m .device) (m .area) (callIn revision index request) (rowOf index .answer) answer e
 leaves m tick e = happened-leaves (verdict (eventChecks (m .device) (m .area))) _ (m .device) (m .area) e
 leaves m power e = happened-leaves (verdict (eventChecks (m .device) (m .area))) _ (m .device) (m .area) e
-
--- "status 11 alone adds one to attempts": and changes nothing else
-wrong-outcome : (v : Verdict) (d : Device) (area : List ℕ) (c : Call) (n ext : ℕ) (answer : List ℕ) → outcome v d area c n answer .reply .verdict ≡ Refused (Status 11 ext)
-    → after (outcome v d area c n answer) ≡ record { device = oneAttemptMore d; area = area }
-wrong-outcome Accepted d area c n ext answer e = let z : _≡_ {A = ℕ} 0 1 = cc in absurd (omega arith)
-wrong-outcome (Refused (R number)) d area c n ext answer e = let z : _≡_ {A = ℕ} 0 1 = cc in absurd (omega arith)
-wrong-outcome (Refused (Status status other)) d area c n ext answer e = let q : status ≡ 11 = cc in rw q
-
-pub wrong-passphrase : (m : Module) (host revision index ext : ℕ) (request answer : List ℕ)
-    → outOf m (call host revision index request answer) .reply .verdict ≡ Refused (Status 11 ext)
-    → after (outOf m (call host revision index request answer)) ≡ record { device = oneAttemptMore (m .device); area = m .area }
-unfolding callResult
-wrong-passphrase m host revision index ext request answer e =
-    wrong-outcome (verdict (callChecks (m .device) (m .area) revision index request answer)) (m .device) (m .area) (callIn revision index request) (rowOf index .answer) ext answer e
 
 -- from any record and any area
 pub strike-out : (m : Module) (h : History) → Plays machine m h → StrikeOut m h

@@ -14,7 +14,7 @@ use Rattle.rules.specs.Table.{rowOf}
 use Rattle.rules.specs.Thresholds.{GetThreshold, SetThreshold}
 use Rattle.rules.specs.Security.{GetSecurityState, SetPassphrase, Disable, Unlock, Freeze}
 use Rattle.rules.specs.Transfer.{TransferCall, GetFwInfo, Start, Send, Finish, Query, transferChecks}
-use Rattle.rules.specs.Module.{Call, OnMask, OnThresholds, OnTransfer, OnSecurity, OnNothing, Module, Event, call, tick, power, after, checks, accepted, outcome, callChecks, callResult, tickResult, powerResult, outOf, callIn}
+use Rattle.rules.specs.Module.{Call, OnMask, OnThresholds, OnTransfer, OnSecurity, OnNothing, Module, Event, call, tick, power, after, checks, acceptedAnswer, outcome, callChecks, callResult, tickResult, powerResult, outOf, callIn}
 use Rattle.rules.specs.Transfers.{Answer, machine, Exchange, callKind, kindOf, eventKind}
 use Rattle.rules.specs.Demand3.{remains}
 use Rattle.rules.specs.Demand1.{bufferTooShort}
@@ -81,7 +81,7 @@ taken (Refused (R number)) e r = absurd (false≢true r)
 taken (Refused (Status status ext)) e r = absurd (false≢true (sym (not-true (status =? 11) e) ∙ r))
 
 outcome-answer : (v : Verdict) (d : Device) (area : List ℕ) (c : Call) (n : ℕ) (answer : List ℕ)
-    → _≡_ {A = Answer} (record { reply = outcome v d area c n answer .reply; buffer = outcome v d area c n answer .answer }) (answerBy v n (accepted d c) answer)
+    → _≡_ {A = Answer} (record { reply = outcome v d area c n answer .reply; buffer = outcome v d area c n answer .answer }) (answerBy v n (acceptedAnswer d c) answer)
 outcome-answer Accepted d area c n answer = refl
 outcome-answer (Refused (R number)) d area c n answer = refl
 outcome-answer (Refused (Status status ext)) d area c n answer = refl
@@ -111,7 +111,7 @@ pub record Through (m : Module) (event : Event) : Type 0 where
   pub nexts-as : machine .next m event ≡ inner .next m event
 
 call-answers : (m : Module) (host : ℕ) (a b : Bool) (c : Call) (n : ℕ) (answer : List ℕ)
-    → answerBy (verdict (front a b ++ checks (m .device) c)) n (accepted (m .device) c) answer ≡ answers m (actOf host a b c n answer)
+    → answerBy (verdict (front a b ++ checks (m .device) c)) n (acceptedAnswer (m .device) c) answer ≡ answers m (actOf host a b c n answer)
 unfolding restAnswer
 call-answers m host a b (OnMask revision) n answer = refl
 call-answers m host a b (OnThresholds x) n answer = refl

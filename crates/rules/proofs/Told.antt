@@ -4,7 +4,7 @@ use mathlib.Core.Path.{_≡_, sym, _∙_, ap, subst}
 use mathlib.Core.List.{List}
 use Prim.Native.Nat.{ℕ}
 use Rattle.rules.specs.Refusals.{verdict, answerAfter}
-use Rattle.rules.specs.Module.{callOf, checks, accepted, change, changeArea}
+use Rattle.rules.specs.Module.{callOf, checks, acceptedAnswer, change, changeArea}
 use Rattle.rules.specs.declared.Verdict.{Verdict}
 use Rattle.rules.specs.declared.Verdict.the-variants.{Accepted}
 use Rattle.rules.specs.declared.Device.{Device}
@@ -30,6 +30,6 @@ module _ (d : Device) (revision : ℕ) (request : List ℕ) where
     k ∙ sym (ap (λ (k : Function). changeArea (callOf k revision request) area) e),
   )
 
-  pub answered : (answer : List ℕ) {f g : Function} {after : List ℕ} → f ≡ g → after ≡ answerAfter (accepted d (callOf g revision request)) answer
-      → after ≡ answerAfter (accepted d (callOf f revision request)) answer
-  answered answer e h = h ∙ sym (ap (λ (k : Function). answerAfter (accepted d (callOf k revision request)) answer) e)
+  pub answered : (answer : List ℕ) {f g : Function} {after : List ℕ} → f ≡ g → after ≡ answerAfter (acceptedAnswer d (callOf g revision request)) answer
+      → after ≡ answerAfter (acceptedAnswer d (callOf f revision request)) answer
+  answered answer e h = h ∙ sym (ap (λ (k : Function). answerAfter (acceptedAnswer d (callOf k revision request)) answer) e)

@@ -1,5 +1,5 @@
 -- Vocabulary: bytes. "All numbers in requests, answers, images, logs and stores are little-endian."
--- A run of bytes is a list of numbers; place 0 is its first byte.
+-- A run of bytes is a list of numbers; place 0 is its first byte. In the code each is below 256; what is said here of lists holds for any numbers.
 -- Assumes nothing.
 use Prim.Native.Nat.{ℕ, zero, suc, _+_, _*_, _/_, _%_, _^_}
 use mathlib.Core.List.{List, [], _∷_, _++_}

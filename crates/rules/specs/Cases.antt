@@ -14,9 +14,9 @@ use Rattle.rules.specs.Replay.{replayStart}
 use Rattle.rules.specs.declared.Phase.the-variants.{Receiving, Staged, Failed}
 
 -- What a case does: it makes a call and expects these answer bytes, or lets ticks pass.
-infix 68 _answers_
+infix 68 _gets_
 pub data Deed : Type 0 where
-  _answers_ : Event → List ℕ → Deed
+  _gets_ : Event → List ℕ → Deed
   passing : (ticks : ℕ) → Deed
 
 -- A row: the module that the case begins with; what is done; and what the case says of record and area in the end.
@@ -40,7 +40,7 @@ ticked (suc ticks) m = ticked ticks (after (outOf m tick))
 
 abbrev holdsFrom : Module → List Deed → (Module → Bool) → Bool
 holdsFrom m [] ends = ends m
-holdsFrom m ((event answers expected) ∷ deeds) ends = as-expected (outOf m event) expected && holdsFrom (after (outOf m event)) deeds ends
+holdsFrom m ((event gets expected) ∷ deeds) ends = as-expected (outOf m event) expected && holdsFrom (after (outOf m event)) deeds ends
 holdsFrom m (passing ticks ∷ deeds) ends = holdsFrom (ticked ticks m) deeds ends
 
 abbrev pub holds : Case → Bool
@@ -51,7 +51,7 @@ abbrev pub failing : (number : ℕ) → List Case → List ℕ
 failing number [] = []
 failing number (c ∷ cases) = if holds c then failing (number + 1) cases else number ∷ failing (number + 1) cases
 
--- calls by host 1 at revision 2, but where a revision is named
+-- calls by host 1 at revision 2, but where a revision is named; a Send, a Finish and a Query with context 1
 abbrev at-revision : (revision index : ℕ) (request : List ℕ) → Event
 at-revision revision index request = call 1 revision index request buffer
 
@@ -99,11 +99,11 @@ one-record payload last = le 2 0 ++ le 2 1 ++ le 8 1 ++ payload ++ last
 -- its whole transfer, which stages version 1
 abbrev staging : List ℕ → List Deed
 staging image =
-    start answers started
-    ∷ send 0 128 image answers status 0
-    ∷ finish answers status 0
+    start gets started
+    ∷ send 0 128 image gets status 0
+    ∷ finish gets status 0
     ∷ passing 8
-    ∷ query answers (status 0 ++ le 8 1)
+    ∷ query gets (status 0 ++ le 8 1)
     ∷ []
 
 abbrev repeated : ℕ → Deed → List Deed
@@ -139,29 +139,29 @@ case deeds = case-to deeds (λ m. true)
 abbrev pub cases : List Case
 cases =
     -- "function 0 at revisions 2, 1 and 3, as above."
-    case (at-revision 2 0 [] answers (0x05 ∷ 0xF0 ∷ 0xFB ∷ 0x00 ∷ []) ∷ [])
-    ∷ case (at-revision 1 0 [] answers (0x05 ∷ 0x00 ∷ 0x00 ∷ 0x00 ∷ []) ∷ [])
-    ∷ case (at-revision 3 0 [] answers (0x00 ∷ 0x00 ∷ 0x00 ∷ 0x00 ∷ []) ∷ [])
+    case (at-revision 2 0 [] gets (0x05 ∷ 0xF0 ∷ 0xFB ∷ 0x00 ∷ []) ∷ [])
+    ∷ case (at-revision 1 0 [] gets (0x05 ∷ 0x00 ∷ 0x00 ∷ 0x00 ∷ []) ∷ [])
+    ∷ case (at-revision 3 0 [] gets (0x00 ∷ 0x00 ∷ 0x00 ∷ 0x00 ∷ []) ∷ [])
     -- "function 18, revision 2: status 1, 4 bytes."
-    ∷ case (ask 18 [] answers status 1 ∷ [])
+    ∷ case (ask 18 [] gets status 1 ∷ [])
     -- "Send at 16,380, length 4, received 16,380: accepted; at 16,381: 3." The second also with 16,381 received, where the sum alone decides.
-    ∷ case-from (receiving 16380) (send 16380 4 (1 ∷ 2 ∷ 3 ∷ 4 ∷ []) answers status 0 ∷ []) received-all
-    ∷ case-from (receiving 16380) (send 16381 4 (1 ∷ 2 ∷ 3 ∷ 4 ∷ []) answers status 3 ∷ []) (received-still 16380)
-    ∷ case-from (receiving 16381) (send 16381 4 (1 ∷ 2 ∷ 3 ∷ 4 ∷ []) answers status 3 ∷ []) (received-still 16381)
+    ∷ case-from (receiving 16380) (send 16380 4 (1 ∷ 2 ∷ 3 ∷ 4 ∷ []) gets status 0 ∷ []) received-all
+    ∷ case-from (receiving 16380) (send 16381 4 (1 ∷ 2 ∷ 3 ∷ 4 ∷ []) gets status 3 ∷ []) (received-still 16380)
+    ∷ case-from (receiving 16381) (send 16381 4 (1 ∷ 2 ∷ 3 ∷ 4 ∷ []) gets status 3 ∷ []) (received-still 16381)
     -- "while Idle, offset 4,294,967,295, length 2, two piece bytes: 3, not 7/1."
-    ∷ case (send 4294967295 2 (1 ∷ 2 ∷ []) answers status 3 ∷ [])
+    ∷ case (send 4294967295 2 (1 ∷ 2 ∷ []) gets status 3 ∷ [])
     -- "length 512 accepted, 513: 3; length 0: 3."
-    ∷ case (start answers started ∷ send 0 512 (replicate 512 7) answers status 0 ∷ [])
-    ∷ case (start answers started ∷ send 0 513 (replicate 513 7) answers status 3 ∷ [])
-    ∷ case (start answers started ∷ send 0 0 [] answers status 3 ∷ [])
+    ∷ case (start gets started ∷ send 0 512 (replicate 512 7) gets status 0 ∷ [])
+    ∷ case (start gets started ∷ send 0 513 (replicate 513 7) gets status 3 ∷ [])
+    ∷ case (start gets started ∷ send 0 0 [] gets status 3 ∷ [])
     -- "Finish with nothing received, 8 ticks: Failed, Query 7/3."
-    ∷ case-to (start answers started ∷ finish answers status 0 ∷ passing 8 ∷ query answers (le 2 7 ++ le 2 3 ++ zeros 8) ∷ []) failed
+    ∷ case-to (start gets started ∷ finish gets status 0 ∷ passing 8 ∷ query gets (le 2 7 ++ le 2 3 ++ zeros 8) ∷ []) failed
     -- "one record, version 1, zero payload: last bytes 01 00 01 00; with bytes 12 to 15 FF: 00 00 01 00."
     ∷ case-to (staging (one-record (zeros 112) (0x01 ∷ 0x00 ∷ 0x01 ∷ 0x00 ∷ []))) staged-1
     ∷ case-to (staging (one-record (replicate 4 0xFF ++ zeros 108) (0x00 ∷ 0x00 ∷ 0x01 ∷ 0x00 ∷ []))) staged-1
     -- "ten wrong passphrases, then the right one: ten times 11, then 10." Here by Disable (docs/DECISIONS.md, A38).
     ∷ case
-    (set-passphrase (replicate 32 9) answers status 0
-    ∷ repeated 10 (disable (replicate 32 8) answers status 11)
-    ++ (disable (replicate 32 9) answers status 10 ∷ []))
+    (set-passphrase (replicate 32 9) gets status 0
+    ∷ repeated 10 (disable (replicate 32 8) gets status 11)
+    ++ (disable (replicate 32 9) gets status 10 ∷ []))
     ∷ []

@@ -9,6 +9,14 @@ use Rattle.rules.specs.Bytes.{numberAt}
 use Rattle.rules.specs.declared.Image.{Image}
 use Rattle.rules.specs.declared.Image.the-variants.{Good, Bad}
 
+-- "records of 128 bytes"
+abbrev pub imageRecord : ℕ
+imageRecord = 128
+
+-- "n": how many records the bytes make
+abbrev pub recordsOf : List ℕ → ℕ
+recordsOf bytes = length bytes / imageRecord
+
 -- the sum of the first so many words, as an exact number
 unfoldable pub sumOfWords : ℕ → List ℕ → ℕ
 sumOfWords zero bytes = 0
@@ -27,11 +35,11 @@ goodRecord i n version bytes =
 unfoldable pub goodRecords : (records i n version : ℕ) → List ℕ → Bool
 goodRecords zero i n version bytes = true
 goodRecords (suc records) i n version bytes =
-    goodRecord i n version (take 128 bytes) && goodRecords records (i + 1) n version (drop 128 bytes)
+    goodRecord i n version (take imageRecord bytes) && goodRecords records (i + 1) n version (drop imageRecord bytes)
 
 -- "received is n times 128, n from 1 to 128."
 abbrev pub goodSize : List ℕ → Bool
-goodSize bytes = (length bytes =? (length bytes / 128) * 128) && (1 ≤? length bytes / 128) && (length bytes / 128 ≤? 128)
+goodSize bytes = (length bytes =? recordsOf bytes * imageRecord) && (1 ≤? recordsOf bytes) && (recordsOf bytes ≤? 128)
 
 -- the version of record 0
 abbrev pub versionOf : List ℕ → ℕ
@@ -42,7 +50,7 @@ unfoldable pub goodImage : List ℕ → Bool
 goodImage bytes =
     goodSize bytes
     && not (versionOf bytes =? 0)
-    && goodRecords (length bytes / 128) 0 (length bytes / 128) (versionOf bytes) bytes
+    && goodRecords (recordsOf bytes) 0 (recordsOf bytes) (versionOf bytes) bytes
 
 -- what the received bytes are
 unfoldable pub imageOf : List ℕ → Image

@@ -26,6 +26,8 @@ pub data Call : Type 0 where
   OnSecurity : SecurityCall → Call
   OnNothing : Call
 
+-- "bytes in, decoded": `Function′.Start` is the table's name, `Start` the call with what its request says. A request of the wrong length is decoded too, but
+-- its length refuses it before any check of its fields.
 abbrev pub callOf : Function → (revision : ℕ) (request : List ℕ) → Call
 callOf Function′.Mask revision request = OnMask revision
 callOf Function′.GetThreshold revision request = OnThresholds GetThreshold
@@ -56,12 +58,12 @@ checks d OnNothing = []
 
 -- the bytes of an accepted call's answer: "a 2-byte status and a 2-byte extended number .., but for function 0". An index that the table lacks is never
 -- accepted, so that its line is never used.
-abbrev pub accepted : Device → Call → List ℕ
-accepted d (OnMask revision) = le 4 (mask revision)
-accepted d (OnThresholds asked) = statusBytes 0 0 ++ thresholdAnswer (d .thresholds) asked
-accepted d (OnTransfer asked) = statusBytes 0 0 ++ transferAnswer (d .transfer) asked
-accepted d (OnSecurity asked) = statusBytes 0 0 ++ securityAnswer (d .security) asked
-accepted d OnNothing = statusBytes 0 0
+abbrev pub acceptedAnswer : Device → Call → List ℕ
+acceptedAnswer d (OnMask revision) = le 4 (mask revision)
+acceptedAnswer d (OnThresholds asked) = statusBytes 0 0 ++ thresholdAnswer (d .thresholds) asked
+acceptedAnswer d (OnTransfer asked) = statusBytes 0 0 ++ transferAnswer (d .transfer) asked
+acceptedAnswer d (OnSecurity asked) = statusBytes 0 0 ++ securityAnswer (d .security) asked
+acceptedAnswer d OnNothing = statusBytes 0 0
 
 -- the record after an accepted call
 abbrev pub change : Device → Call → Device
@@ -111,7 +113,7 @@ outcome Accepted d area asked n answer =
       reply = reply Accepted n;
       device = change d asked;
       area = changeArea asked area;
-      answer = answerAfter (accepted d asked) answer;
+      answer = answerAfter (acceptedAnswer d asked) answer;
     }
 outcome (Refused (R number)) d area asked n answer =
     record { reply = reply (Refused (R number)) 0; device = d; area = area; answer = answer }

@@ -73,14 +73,16 @@ unfoldable pub moduleAfter : Module → (log : List ℕ) (j : ℕ) → Module
 moduleAfter m log zero = m
 moduleAfter m log (suc j) = recordPlayed (moduleAfter m log j) (recordAt log j)
 
--- the lines of the first j records of a log, the first of which has the number given
+-- the lines of the first j records of a log, the first of which has the number given: 0, but where a log is read part by part
 unfoldable pub recordLines : (number : ℕ) → Module → (log : List ℕ) (j : ℕ) → List ℕ
 recordLines number m log zero = []
 recordLines number m log (suc j) = recordLines number m log j ++ recordLine (number + j) (moduleAfter m log j) (recordAt log j)
 
+-- "record kind status ext length"
 abbrev pub heading : List ℕ
 heading = ascii "record kind status ext length\n"
 
+-- "3 short": a tail has the number after the last record's
 abbrev pub tailLine : (number : ℕ) → Bool → List ℕ
 tailLine number short = if short then field number " short\n" else []
 

@@ -6,7 +6,7 @@ use Prim.Native.String.{String, [] as end, _∷_ as _then_}
 use mathlib.Core.List.{List, [], _∷_, _++_}
 use Rattle.rules.specs.Tests.{_<?_, if_then_else_}
 
--- the bytes of a quoted text of ASCII characters
+-- The bytes of a quoted text of ASCII characters. A text is `end`, empty, or `c then text`, a character before the rest; `code c` is its number.
 abbrev pub ascii : String → List ℕ
 ascii end = []
 ascii (c then text) = code c ∷ ascii text

@@ -46,7 +46,7 @@ startChecks t =
     ∷ (t .contexts =? lastContext gives Status 8 0)
     ∷ []
 
--- "Else the next number is given, received is 0, phase Receiving;" "Numbers .. are never given again": `NeverAgain` in Demand.antt says it of histories.
+-- "Else the next number is given, received is 0, phase Receiving;" "Numbers .. are never given again": `NeverAgain` in Demand3.antt says it of histories.
 abbrev pub startChange : Transfer → Transfer
 startChange t = t with-contexts (t .contexts + 1) with-received 0 with-phase Receiving
 
