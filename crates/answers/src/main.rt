@@ -1,6 +1,6 @@
 // The fuller trace that layouts are compared by: for each record of a log a line with the answer's bytes in hex, then every field of the device record and the
-// whole staging area. `-` is standard input. It promises no text; its lines are compared with an independent program's.
-ghost use Prim.Native.Nat.{_+_, _*_, _≤_};
+// whole staging area. `-` is standard input. Its lines are compared with an independent program's.
+ghost use Prim.Native.Nat.{_+_, _/_, _≤_};
 ghost use mathlib.Core.Path.{_≡_};
 ghost use lib.ListN.{length};
 use files::Filled;
@@ -10,151 +10,12 @@ use files::TURNS;
 use module::Outcome;
 use rules::Device;
 use rules::Entry;
-use rules::Phase;
-use rules::Security;
-use rules::Thresholds;
-use rules::Transfer;
+use turns::ANSWER;
+use turns::AREA;
+use turns::Turn;
 
-// The staging area, in bytes.
-const AREA: usize = 16384;
-
-// The answer buffer, in bytes: the shortest that a call takes.
-const ANSWER: usize = 64;
-
-// The text of a part: 120 lines of at most 160 bytes, each a number of at most 20 digits, a word, the answer in hex and the line's end.
-const TEXT: usize = 19200;
-
-// A line of the end state with a name of at most 16 bytes and a number of at most 20 digits.
-const LINE: usize = 64;
-
-// A line of the end state with bytes, the longest of which is the area's: two digits for each byte of it, its name and the line's end.
-const BYTES: usize = 32800;
-
-// The hex digit of the lower four bits.
-fn hex_digit(n: u8) -> u8 {
-    let digit = n % 16;
-    if digit < 10 {
-        return 48 + digit;
-    }
-    87 + digit
-}
-
-fn put_digit(out: &mut [u8], at: usize, n: u8) -> usize
-    requires { ⌜ at + 1 ≤ length (now out) ⌝ }
-    ensures { λ r. ⌜ r ≡ at + 1 ⌝ }
-{
-    out[at] = hex_digit(n);
-    at + 1
-}
-
-// The first `count` bytes in lower-case hex; nothing if there are not so many.
-fn put_hex(out: &mut [u8], at: usize, bytes: &[u8], count: usize) -> usize
-    requires { ⌜ at + 2 * length (now bytes) ≤ length (now out) ⌝ }
-    ensures { λ r. ⌜ r ≤ at + 2 * length (now (bytes .entry)) ⌝ }
-{
-    if bytes.len() < count {
-        return at;
-    }
-    let mut to = at;
-    let mut i = 0;
-    while i < count {
-        let b = bytes[i];
-        to = put_digit(out, to, b / 16);
-        to = put_digit(out, to, b);
-        i += 1;
-    }
-    to
-}
-
-// The line of a call: the answer's bytes, of which there are `size`.
-fn put_answer(out: &mut [u8], at: usize, number: u64, answer: &[u8; ANSWER], size: usize) -> usize
-    requires { ⌜ at + 160 ≤ length (now out) ⌝ }
-    ensures { λ r. ⌜ r ≤ at + 160 ⌝ }
-{
-    let named = text::put_field(out, at, number, b" call ");
-    let end = put_hex(out, named, answer, size);
-    text::put(out, end, b"\n")
-}
-
-// The line of a tail that is no whole record, if there is one.
-fn show_tail(number: u64, short: bool) -> bool {
-    if !short {
-        return true;
-    }
-    let mut line = [0u8; LINE];
-    let end = text::put_field(&mut line, 0, number, b" short\n");
-    files::show(&line, end)
-}
-
-// A field of the record: its name and its number.
-fn show_number(name: &[u8], n: u64) -> bool
-    requires { ⌜ length (now name) ≤ 16 ⌝ }
-{
-    let mut line = [0u8; LINE];
-    let at = text::put(&mut line, 0, name);
-    let end = text::put_field(&mut line, at, n, b"\n");
-    files::show(&line, end)
-}
-
-fn show_bytes(name: &[u8], bytes: &[u8]) -> bool
-    requires { ⌜ length (now name) ≤ 16 ⌝ }
-    requires { ⌜ length (now bytes) ≤ 16384 ⌝ }
-{
-    let mut line = [0u8; BYTES];
-    let at = text::put(&mut line, 0, name);
-    let end = put_hex(&mut line, at, bytes, bytes.len());
-    let end = text::put(&mut line, end, b"\n");
-    files::show(&line, end)
-}
-
-fn bit(on: bool) -> u64 {
-    if on {
-        return 1;
-    }
-    0
-}
-
-fn show_phase(phase: Phase) -> bool {
-    let mut line = [0u8; LINE];
-    let at = text::put(&mut line, 0, b"phase ");
-    let end = text::put_phase(&mut line, at, phase);
-    let end = text::put(&mut line, end, b"\n");
-    files::show(&line, end)
-}
-
-fn show_transfer(transfer: Transfer) -> bool {
-    let phase = transfer.phase;
-    show_phase(phase)
-        && show_number(b"contexts ", transfer.contexts as u64)
-        && show_number(b"received ", transfer.received as u64)
-        && show_number(b"ticks ", transfer.ticks as u64)
-        && show_number(b"running ", transfer.running)
-        && show_number(b"staged ", transfer.staged)
-}
-
-fn show_thresholds(thresholds: Thresholds) -> bool {
-    show_number(b"enable ", thresholds.enable as u64)
-        && show_number(b"spare ", thresholds.spare as u64)
-        && show_number(b"media ", thresholds.media as u64)
-        && show_number(b"controller ", thresholds.controller as u64)
-}
-
-fn show_security(security: Security) -> bool {
-    show_number(b"enabled ", bit(security.enabled))
-        && show_number(b"locked ", bit(security.locked))
-        && show_number(b"frozen ", bit(security.frozen))
-        && show_number(b"attempts ", security.attempts as u64)
-        && show_bytes(b"passphrase ", &security.passphrase)
-}
-
-// What follows the records' lines, up to the first that cannot be written.
-fn show_end(number: u64, short: bool, d: Device, area: &[u8; AREA]) -> bool {
-    show_tail(number, short)
-        && show_transfer(d.transfer)
-        && show_thresholds(d.thresholds)
-        && show_security(d.security)
-        && show_bytes(b"area ", area)
-}
+// The text of a part, 120 lines of at most 160 bytes, and that of the end state, two digits for each byte of the area and some short lines: in whole pages.
+const TEXT: usize = 36864;
 
 // The place after what was written, and the record after what was played.
 pub struct Answered {
@@ -189,7 +50,7 @@ fn answer_call(
     let f = function as u64;
     let outcome = module::call(d, area, v, f, request, &mut answer);
     let reply = outcome.reply;
-    let at = put_answer(out, at, number, &answer, reply.length);
+    let at = trace::put_answer(out, at, number, &answer, reply.length);
     played(at, outcome)
 }
 
@@ -246,6 +107,7 @@ fn answer_part(
     requires { ⌜ (have ≤ 65280) × (have ≤ length (now buf)) ⌝ }
     requires { ⌜ number ≤ 9000000000000000000 ⌝ }
     requires { ⌜ 19200 ≤ length (now out) ⌝ }
+    ensures { λ r. ⌜ r .at ≤ 19200 ⌝ }
 {
     let count = have / RECORD;
     let mut answered = Answered { at: 0, device: d };
@@ -267,13 +129,6 @@ fn answer_part(
     answered
 }
 
-// Where a log stands: whether there is more of it, the number of the next record, and the device record.
-pub struct Turn {
-    pub more: bool,
-    pub number: u64,
-    pub device: Device,
-}
-
 // What was read of a log is answered; what is less than a whole buffer ends it. A log that stops being readable has no end state.
 fn answer_filled(
     name: &[u8],
@@ -285,31 +140,32 @@ fn answer_filled(
 ) -> Turn
     requires { ⌜ filled .have ≤ 65280 ⌝ }
     requires { ⌜ turn .number ≤ 9000000000000000000 ⌝ }
-    ensures { λ r. ⌜ r .number ≤ turn .number + 120 ⌝ }
+    ensures { λ r. ⌜ r .number ≡ turn .number + filled .have / 544 ⌝ }
 {
     let have = filled.have;
     let answered = answer_part(out, buf, have, turn.number, turn.device, area);
-    let device = answered.device;
     let at = answered.at;
     let written = files::show(out, at);
-    let number = turn.number + (have / RECORD) as u64;
-    let whole = have == PART;
-    if written & !whole {
-        end_log(name, filled, number, device, area);
+    let next = turns::next(turn, have, written, answered.device);
+    if written & (have != PART) {
+        end_log(name, filled, next, out, area);
     }
-    Turn {
-        more: written & whole,
-        number,
-        device,
-    }
+    next
 }
 
-fn end_log(name: &[u8], filled: Filled, number: u64, d: Device, area: &[u8; AREA]) {
+fn end_log(name: &[u8], filled: Filled, turn: Turn, out: &mut [u8; TEXT], area: &[u8; AREA]) {
     if filled.failed {
         os::fail(name);
         return;
     }
-    show_end(number, filled.have % RECORD != 0, d, area);
+    let end = trace::put_end(
+        out,
+        turn.number,
+        filled.have % RECORD != 0,
+        turn.device,
+        area,
+    );
+    files::show(out, end);
 }
 
 // One log, part by part, so that memory does not grow with it.
@@ -320,11 +176,7 @@ fn answer_log(
     out: &mut [u8; TEXT],
     area: &mut [u8; AREA],
 ) {
-    let mut turn = Turn {
-        more: true,
-        number: 0,
-        device: module::fresh(),
-    };
+    let mut turn = turns::first();
     let mut turns: u64 = TURNS;
     while turns > 0 {
         if !turn.more {

@@ -69,10 +69,9 @@ pub fn fill(fd: i32, buf: &mut [u8]) -> Filled
 }
 
 // Writes the front of a buffer out, and answers whether all of it was taken.
-pub fn show(out: &[u8], end: usize) -> bool {
-    if out.len() < end {
-        return false;
-    }
+pub fn show(out: &[u8], end: usize) -> bool
+    requires { ⌜ end ≤ length (now out) ⌝ }
+{
     let written = io::write_all(STDOUT_FILENO, &out[..end]);
     if !written {
         os::fail(b"standard output");

@@ -1,20 +1,19 @@
 // Replays logs: for each log that an argument names, the text of document 01, "The replay program", one text after another. `-` is standard input.
 // What cannot be read or written is named on standard error; the other logs are replayed all the same.
-ghost use Prim.Native.Nat.{_+_, _≤_};
+ghost use Prim.Native.Nat.{_+_, _/_, _≤_};
 ghost use mathlib.Core.Path.{_≡_};
-ghost use lib.ListN.{length};
+ghost use lib.ListN.{length, take};
+ghost use Rattle.play.specs.Replayed.{moduleOf};
+ghost use Rattle.replay.specs.Places.{PartReplayed};
 use files::Filled;
 use files::PART;
 use files::RECORD;
 use files::TURNS;
 use play::Played;
 use rules::Device;
-
-// The staging area, in bytes.
-const AREA: usize = 16384;
-
-// The answer buffer, in bytes: the shortest that a call takes.
-const ANSWER: usize = 64;
+use turns::ANSWER;
+use turns::AREA;
+use turns::Turn;
 
 // The text of a part: 120 lines of at most 96 bytes, in whole pages of 4,096.
 const TEXT: usize = 12288;
@@ -49,15 +48,10 @@ fn put_part(
     requires { ⌜ (have ≤ 65280) × (have ≤ length (now buf)) ⌝ }
     requires { ⌜ number ≤ 9000000000000000000 ⌝ }
     requires { ⌜ (12288 ≤ length (now out)) × (length (now answer) ≡ 64) ⌝ }
+    ensures { λ r. ⌜ r .at ≤ 12288 ⌝ }
+    ensures { λ r. ⌜ PartReplayed number (moduleOf d (now (area .entry))) (take have (now (buf .entry))) (now (out .entry)) (now (out .exit)) (now (area .exit)) r ⌝ }
 {
     replay::put_lines(out, &buf[..have], number, d, area, answer)
-}
-
-// Where a log stands: whether there is more of it, the number of the next record, and the device record.
-pub struct Turn {
-    pub more: bool,
-    pub number: u64,
-    pub device: Device,
 }
 
 // What was read of a log is replayed; what is less than a whole buffer ends it. A log that stops being readable has no last line.
@@ -72,31 +66,25 @@ fn replay_filled(
 ) -> Turn
     requires { ⌜ filled .have ≤ 65280 ⌝ }
     requires { ⌜ turn .number ≤ 9000000000000000000 ⌝ }
-    ensures { λ r. ⌜ r .number ≤ turn .number + 120 ⌝ }
+    ensures { λ r. ⌜ r .number ≡ turn .number + filled .have / 544 ⌝ }
 {
     let have = filled.have;
     let played = put_part(out, buf, have, turn.number, turn.device, area, answer);
-    let device = played.device;
     let at = played.at;
     let written = files::show(out, at);
-    let number = turn.number + (have / RECORD) as u64;
-    let whole = have == PART;
-    if written & !whole {
-        end_log(name, filled, number, device, out);
+    let next = turns::next(turn, have, written, played.device);
+    if written & (have != PART) {
+        end_log(name, filled, next, out);
     }
-    Turn {
-        more: written & whole,
-        number,
-        device,
-    }
+    next
 }
 
-fn end_log(name: &[u8], filled: Filled, number: u64, d: Device, out: &mut [u8; TEXT]) {
+fn end_log(name: &[u8], filled: Filled, turn: Turn, out: &mut [u8; TEXT]) {
     if filled.failed {
         os::fail(name);
         return;
     }
-    show_end(out, number, filled.have % RECORD != 0, d);
+    show_end(out, turn.number, filled.have % RECORD != 0, turn.device);
 }
 
 // One log, part by part, so that memory does not grow with it.
@@ -116,11 +104,7 @@ fn replay_log(
     if !show_heading(out) {
         return;
     }
-    let fresh = Turn {
-        more: true,
-        number: 0,
-        device: module::fresh(),
-    };
+    let fresh = turns::first();
     let mut turn = replay_filled(name, first, fresh, buf, out, area, answer);
     let mut turns: u64 = TURNS;
     while turns > 0 {

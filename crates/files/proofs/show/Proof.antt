@@ -8,12 +8,11 @@ use Rattle.files.proofs.show.Tie as tie
 slice-aggregate-write-all : tie.Need-slice-aggregate-write-all
 slice-aggregate-write-all c = front _ _ (search needs)
 
--- by search: returns, write-all-requires, slice-aggregate-fail, fail-requires, returns-2, returns-3
+-- by search: write-all-requires, slice-aggregate-fail, fail-requires, returns, returns-2
 pub show-spec : {M : Type 1} → statement M
 show-spec =
     tie.close
     (tie.spec
-    (λ c. search needs)
     slice-aggregate-write-all
     (λ c κs. search needs)
     (λ c. search needs)
