@@ -12,12 +12,12 @@ fn good_call(bytes: &[u8]) -> bool
     requires { ⌜ length (now bytes) ≡ 544 ⌝ }
     ensures { λ r. ⌜ r ≡ goodCall (now (bytes .entry)) ⌝ }
 {
-    let host = base::byte(bytes, 1);
+    let host = numbers::byte(bytes, 1);
     let known = (1 <= host) & (host <= 4);
     if !known {
         return false;
     }
-    let size = base::half(bytes, 6);
+    let size = numbers::half(bytes, 6);
     if 536 < size {
         return false;
     }
@@ -34,10 +34,10 @@ fn decode_call(bytes: &[u8]) -> Entry
         return Entry::Bad;
     }
     Entry::Call {
-        host: base::byte(bytes, 1),
-        revision: base::half(bytes, 2),
-        function: base::half(bytes, 4),
-        length: base::half(bytes, 6),
+        host: numbers::byte(bytes, 1),
+        revision: numbers::half(bytes, 2),
+        function: numbers::half(bytes, 4),
+        length: numbers::half(bytes, 6),
     }
 }
 
@@ -60,7 +60,7 @@ pub fn decode(bytes: &[u8]) -> Entry
     if bytes.len() != 544 {
         return Entry::Bad;
     }
-    let kind = base::byte(bytes, 0);
+    let kind = numbers::byte(bytes, 0);
     match kind {
         1 => decode_call(bytes),
         2 => decode_bare(bytes, Entry::Tick),

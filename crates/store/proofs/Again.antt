@@ -15,7 +15,7 @@ use Rattle.rules.specs.Record.{phaseNumber}
 use Rattle.rules.specs.Refusals.{oneAttemptMore}
 use Rattle.rules.specs.declared.Device.{Device}
 use Rattle.rules.proofs.Choice.{and-true}
-use Rattle.base.proofs.Le.{Bytes, bytes-drop, bytes-take}
+use Rattle.numbers.proofs.Bytes.{Bytes, bytes-drop, bytes-take}
 use Rattle.store.specs.Store.{flag, encodeOf, phaseOf, record?, recordOf, decodeOf}
 use Rattle.store.proofs.Fine.{Fine, fine}
 
