@@ -4,7 +4,7 @@ ghost use lib.ListN.{length};
 ghost use Rattle.rules.specs.Tests.{if_then_else_};
 ghost use Rattle.rules.specs.Log.{entryOf, goodCall, bare};
 ghost use Rattle.rules.specs.declared.Entry.the-variants.{Bad};
-ghost use Rattle.log.specs.Call.{callIn};
+ghost use Rattle.log.specs.Call.{callEntry};
 use rules::Entry;
 
 // The padding is scanned last, and only where the fields before it are good.
@@ -27,7 +27,7 @@ fn good_call(bytes: &[u8]) -> bool
 
 fn decode_call(bytes: &[u8]) -> Entry
     requires { ⌜ length (now bytes) ≡ 544 ⌝ }
-    ensures { λ r. ⌜ r ≡ (if goodCall (now (bytes .entry)) then callIn (now (bytes .entry)) else Bad) ⌝ }
+    ensures { λ r. ⌜ r ≡ (if goodCall (now (bytes .entry)) then callEntry (now (bytes .entry)) else Bad) ⌝ }
 {
     let good = good_call(bytes);
     if !good {

@@ -41,10 +41,10 @@ fn is_record(s: &[u8]) -> bool
     let enabled = numbers::byte(s, 1);
     let locked = numbers::byte(s, 2);
     let frozen = numbers::byte(s, 3);
-    let spare = numbers::byte(s, 33);
+    let unused = numbers::byte(s, 33);
     let between = zero_between(s);
     let after = zero_after(s);
-    (phase <= 4) & (enabled <= 1) & (locked <= 1) & (frozen <= 1) & (spare == 0) & between & after
+    (phase <= 4) & (enabled <= 1) & (locked <= 1) & (frozen <= 1) & (unused == 0) & between & after
 }
 
 fn phase_of(n: u8) -> Phase
