@@ -11,7 +11,7 @@ use lib.ListN.{length, getD, take, drop, set, drop-of-length-le}
 use lib.Seq.{drop-cons, take-suc, append-snoc, set-at, length-take-le, take-length}
 use Rattle.rules.specs.Bytes.{zeros?, same?, splice}
 
-pub and-assoc : (a b c : Bool) → ((a && b) && c) ≡ (a && (b && c))
+and-assoc : (a b c : Bool) → ((a && b) && c) ≡ (a && (b && c))
 and-assoc true b c = refl
 and-assoc false b c = refl
 
@@ -41,7 +41,7 @@ module _ (a b : List ℕ) (i : ℕ) (so-far : Bool) (whole : (so-far && same? (d
   unfolding same?
   same-end h k = sym (and-true so-far) ∙ sym (rw (drop-of-length-le a h, drop-of-length-le b k) refl) ∙ whole
 
-pub same-true : (a b : List ℕ) → same? a b ≡ true → a ≡ b
+same-true : (a b : List ℕ) → same? a b ≡ true → a ≡ b
 unfolding same?
 same-true [] [] e = refl
 same-true [] (y ∷ ys) e = absurd (false≢true e)
@@ -51,11 +51,6 @@ same-true (x ∷ xs) (y ∷ ys) e = go (eqb x y) refl e (same-true xs ys)
     go : (t : Bool) → eqb x y ≡ t → (t && same? xs ys) ≡ true → (same? xs ys ≡ true → xs ≡ ys) → (x ∷ xs) ≡ (y ∷ ys)
     go true p q r = cc (eqb-true x y p, r q)
     go false p q r = absurd (false≢true q)
-
-pub same-self : (a : List ℕ) → same? a a ≡ true
-unfolding same?
-same-self [] = refl
-same-self (x ∷ xs) = rw (eq-eqb x x refl) (same-self xs)
 
 pub same-lengths : (a b : List ℕ) → (length a ≡ length b → ⊥) → false ≡ same? a b
 unfolding same?

@@ -32,11 +32,6 @@ module _ (a k : ℕ) (xs ys : List ℕ) (h : a + k ≤ length xs) where
       let none : drop (0 + length zs) (take (a + k - a) (drop a xs)) ≡ [] = drop-of-length-le _ short in
       lent-as zs l (e ∙ ap (λ (w : List ℕ). zs ++ w) none ∙ append-nil zs)
 
-pub length-splice : (a : ℕ) (new old : List ℕ) → a + length new ≤ length old → length (splice a new old) ≡ length old
-length-splice a new old h =
-    let g : a ≤ length old = omega arith in
-    rw (length-append, length-append, length-take-le a old g, length-drop) (omega arith)
-
 -- what is written next to what was written at the front
 pub splice-next : (done new old : List ℕ) (at : ℕ) → length done ≡ at
     → splice at new (done ++ drop at old) ≡ (done ++ new) ++ drop (length (done ++ new)) old

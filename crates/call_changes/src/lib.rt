@@ -26,15 +26,15 @@ pub fn change(
         Function::GetThreshold => d,
         Function::GetFwInfo => d,
         Function::Start => Device {
-            transfer: transfer::change::start(d.transfer),
+            transfer: transfer::start(d.transfer),
             ..d
         },
         Function::Send => Device {
-            transfer: transfer::change::send(d.transfer, area, request),
+            transfer: transfer::send(d.transfer, area, request),
             ..d
         },
         Function::Finish => Device {
-            transfer: transfer::change::finish(d.transfer, request),
+            transfer: transfer::finish(d.transfer, request),
             ..d
         },
         Function::Query => d,

@@ -13,7 +13,7 @@ fn sum(record: &[u8]) -> u32
     let mut word: usize = 0;
     while word < 31 {
         let at = word * 4;
-        sum = std::num::wrapping_add_u32(sum, base::word(record, at));
+        sum = std::num::wrapping_add_u32(sum, numbers::word(record, at));
         word += 1;
     }
     sum
@@ -24,13 +24,13 @@ fn good_record(i: u16, n: u16, version: u64, record: &[u8]) -> bool
     requires { ⌜ length (now «record») ≡ 128 ⌝ }
     ensures { λ r. ⌜ r ≡ goodRecord i n version (now («record» .entry)) ⌝ }
 {
-    let good_fields = (base::half(record, 0) == i)
-        & (base::half(record, 2) == n)
-        & (base::long(record, 4) == version);
+    let good_fields = (numbers::half(record, 0) == i)
+        & (numbers::half(record, 2) == n)
+        & (numbers::long(record, 4) == version);
     if !good_fields {
         return false;
     }
-    base::word(record, 124) == sum(record)
+    numbers::word(record, 124) == sum(record)
 }
 
 // All n records are good. The first bad one decides.
@@ -61,7 +61,7 @@ pub fn image(bytes: &[u8]) -> rules::Image
     if !sized {
         return rules::Image::Bad;
     }
-    let version = base::long(bytes, 4);
+    let version = numbers::long(bytes, 4);
     let zero = version == 0;
     if zero {
         return rules::Image::Bad;

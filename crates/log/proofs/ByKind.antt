@@ -10,7 +10,7 @@ use Rattle.rules.specs.Tests.{if_then_else_, _=?_}
 use Rattle.rules.specs.Log.{entryOf, kindIn, goodCall, bare}
 use Rattle.rules.specs.declared.Entry.{Entry}
 use Rattle.rules.specs.declared.Entry.the-variants.{Tick, Power, Bad}
-use Rattle.log.specs.Call.{callIn}
+use Rattle.log.specs.Call.{callEntry}
 
 pub of-no-record : (bytes : List ℕ) → (length bytes ≡ 544 → ⊥) → Bad ≡ entryOf bytes
 unfolding entryOf
@@ -39,21 +39,21 @@ other-kind : (kind : ℕ) (good zero : Bool) (call : Entry) → (kind ≡ 1 → 
 other-kind kind good zero call n1 n2 n3 = simp (ne-eqb kind 1 n1, ne-eqb kind 2 n2, ne-eqb kind 3 n3)
 
 module _ {kind : ℕ} (bytes : List ℕ) (long : length bytes ≡ 544) (read : kind ≡ kindIn bytes) where
-  kept-kind : byKind kind (goodCall bytes) (bare bytes) (callIn bytes) ≡ entryOf bytes
+  kept-kind : byKind kind (goodCall bytes) (bare bytes) (callEntry bytes) ≡ entryOf bytes
   unfolding entryOf
   kept-kind = simp (read, eq-eqb (length bytes) 544 long)
 
-  at-kind : (k : ℕ) → kind ≡ k → byKind k (goodCall bytes) (bare bytes) (callIn bytes) ≡ entryOf bytes
-  at-kind k e = ap (λ (x : ℕ). byKind x (goodCall bytes) (bare bytes) (callIn bytes)) (sym e) ∙ kept-kind
+  at-kind : (k : ℕ) → kind ≡ k → byKind k (goodCall bytes) (bare bytes) (callEntry bytes) ≡ entryOf bytes
+  at-kind k e = ap (λ (x : ℕ). byKind x (goodCall bytes) (bare bytes) (callEntry bytes)) (sym e) ∙ kept-kind
 
-  pub of-kind-1 : kind ≡ 1 → (if goodCall bytes then callIn bytes else Bad) ≡ entryOf bytes
-  of-kind-1 e = kind-1 (goodCall bytes) (bare bytes) (callIn bytes) ∙ at-kind 1 e
+  pub of-kind-1 : kind ≡ 1 → (if goodCall bytes then callEntry bytes else Bad) ≡ entryOf bytes
+  of-kind-1 e = kind-1 (goodCall bytes) (bare bytes) (callEntry bytes) ∙ at-kind 1 e
 
   pub of-kind-2 : kind ≡ 2 → (if bare bytes then Tick else Bad) ≡ entryOf bytes
-  of-kind-2 e = kind-2 (goodCall bytes) (bare bytes) (callIn bytes) ∙ at-kind 2 e
+  of-kind-2 e = kind-2 (goodCall bytes) (bare bytes) (callEntry bytes) ∙ at-kind 2 e
 
   pub of-kind-3 : kind ≡ 3 → (if bare bytes then Power else Bad) ≡ entryOf bytes
-  of-kind-3 e = kind-3 (goodCall bytes) (bare bytes) (callIn bytes) ∙ at-kind 3 e
+  of-kind-3 e = kind-3 (goodCall bytes) (bare bytes) (callEntry bytes) ∙ at-kind 3 e
 
   pub of-other-kind : (kind ≡ 1 → ⊥) → (kind ≡ 2 → ⊥) → (kind ≡ 3 → ⊥) → Bad ≡ entryOf bytes
-  of-other-kind n1 n2 n3 = other-kind kind (goodCall bytes) (bare bytes) (callIn bytes) n1 n2 n3 ∙ kept-kind
+  of-other-kind n1 n2 n3 = other-kind kind (goodCall bytes) (bare bytes) (callEntry bytes) n1 n2 n3 ∙ kept-kind

@@ -13,7 +13,7 @@ use Rattle.rules.specs.Log.{entryOf, kindIn, hostIn, revisionIn, functionIn, le
 use Rattle.rules.specs.declared.Entry.{Entry}
 use Rattle.rules.specs.declared.Entry.the-variants.{Call, Tick, Power, Bad}
 use Rattle.rules.proofs.Choice.{and-true}
-use Rattle.log.specs.Call.{callIn}
+use Rattle.log.specs.Call.{callEntry}
 
 pub record IsCall (bytes : List ℕ) (host revision function size : ℕ) : Type 0 where
   pub long : length bytes ≡ 544
@@ -36,7 +36,7 @@ length-most bytes good =
     leb-true (lengthIn bytes) 536 (and-true ((1 ≤? hostIn bytes) && (hostIn bytes ≤? 4)) (lengthIn bytes ≤? 536) short .1)
 
 module _ (bytes : List ℕ) {host revision function size : ℕ} where
-  as-read : length bytes ≡ 544 → goodCall bytes ≡ true → callIn bytes ≡ Call host revision function size → IsCall bytes host revision function size
+  as-read : length bytes ≡ 544 → goodCall bytes ≡ true → callEntry bytes ≡ Call host revision function size → IsCall bytes host revision function size
   as-read long good e =
       let size-read : size ≡ lengthIn bytes = cc in
       let most : lengthIn bytes ≤ 536 = length-most bytes good in
@@ -47,7 +47,7 @@ module _ (bytes : List ℕ) {host revision function size : ℕ} where
   is-call = go (length bytes =? 544) refl (kindIn bytes =? 1 && goodCall bytes) refl (kindIn bytes =? 2 && bare bytes) (kindIn bytes =? 3 && bare bytes)
     where
       go : (whole : Bool) → (length bytes =? 544) ≡ whole → (call : Bool) → (kindIn bytes =? 1 && goodCall bytes) ≡ call → (tick power : Bool)
-          → (if not whole then Bad else if call then callIn bytes else if tick then Tick else if power then Power else Bad) ≡ Call host revision function size
+          → (if not whole then Bad else if call then callEntry bytes else if tick then Tick else if power then Power else Bad) ≡ Call host revision function size
           → IsCall bytes host revision function size
       go true w true g tick power e = as-read (eqb-true (length bytes) 544 w) (and-true (kindIn bytes =? 1) (goodCall bytes) g .1) e
       go true w false g true power e = absurd (omega (arith, ap call? e))

@@ -6,5 +6,5 @@ use Rattle.rules.specs.Log.{hostIn, revisionIn, functionIn, lengthIn}
 use Rattle.rules.specs.declared.Entry.{Entry}
 use Rattle.rules.specs.declared.Entry.the-variants.{Call}
 
-abbrev pub callIn : List ℕ → Entry
-callIn bytes = Call (hostIn bytes) (revisionIn bytes) (functionIn bytes) (lengthIn bytes)
+abbrev pub callEntry : List ℕ → Entry
+callEntry bytes = Call (hostIn bytes) (revisionIn bytes) (functionIn bytes) (lengthIn bytes)

@@ -4,7 +4,7 @@ ghost use lib.ListN.{length};
 ghost use Rattle.rules.specs.Tests.{if_then_else_};
 ghost use Rattle.rules.specs.Log.{entryOf, goodCall, bare};
 ghost use Rattle.rules.specs.declared.Entry.the-variants.{Bad};
-ghost use Rattle.log.specs.Call.{callIn};
+ghost use Rattle.log.specs.Call.{callEntry};
 use rules::Entry;
 
 // The padding is scanned last, and only where the fields before it are good.
@@ -12,12 +12,12 @@ fn good_call(bytes: &[u8]) -> bool
     requires { ⌜ length (now bytes) ≡ 544 ⌝ }
     ensures { λ r. ⌜ r ≡ goodCall (now (bytes .entry)) ⌝ }
 {
-    let host = base::byte(bytes, 1);
+    let host = numbers::byte(bytes, 1);
     let known = (1 <= host) & (host <= 4);
     if !known {
         return false;
     }
-    let size = base::half(bytes, 6);
+    let size = numbers::half(bytes, 6);
     if 536 < size {
         return false;
     }
@@ -27,17 +27,17 @@ fn good_call(bytes: &[u8]) -> bool
 
 fn decode_call(bytes: &[u8]) -> Entry
     requires { ⌜ length (now bytes) ≡ 544 ⌝ }
-    ensures { λ r. ⌜ r ≡ (if goodCall (now (bytes .entry)) then callIn (now (bytes .entry)) else Bad) ⌝ }
+    ensures { λ r. ⌜ r ≡ (if goodCall (now (bytes .entry)) then callEntry (now (bytes .entry)) else Bad) ⌝ }
 {
     let good = good_call(bytes);
     if !good {
         return Entry::Bad;
     }
     Entry::Call {
-        host: base::byte(bytes, 1),
-        revision: base::half(bytes, 2),
-        function: base::half(bytes, 4),
-        length: base::half(bytes, 6),
+        host: numbers::byte(bytes, 1),
+        revision: numbers::half(bytes, 2),
+        function: numbers::half(bytes, 4),
+        length: numbers::half(bytes, 6),
     }
 }
 
@@ -60,7 +60,7 @@ pub fn decode(bytes: &[u8]) -> Entry
     if bytes.len() != 544 {
         return Entry::Bad;
     }
-    let kind = base::byte(bytes, 0);
+    let kind = numbers::byte(bytes, 0);
     match kind {
         1 => decode_call(bytes),
         2 => decode_bare(bytes, Entry::Tick),

@@ -67,7 +67,7 @@ pub fn tick(d: Device, area: &[u8]) -> Outcome
     let verdict = record::judge_event(d, area);
     match verdict {
         Verdict::Accepted => {
-            let transfer = transfer::time::tick(d.transfer, area);
+            let transfer = transfer_time::tick(d.transfer, area);
             let ticked = Device { transfer, ..d };
             result(ticked, verdict, 0)
         }
@@ -81,7 +81,7 @@ pub fn power(d: Device, area: &[u8]) -> Outcome
     let verdict = record::judge_event(d, area);
     match verdict {
         Verdict::Accepted => {
-            let transfer = transfer::time::power(d.transfer);
+            let transfer = transfer_time::power(d.transfer);
             let security = security::change::power(d.security);
             let started = Device {
                 transfer,

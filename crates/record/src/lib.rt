@@ -74,10 +74,10 @@ fn all_zero(passphrase: &[u8]) -> bool
     requires { ⌜ length (now passphrase) ≡ 32 ⌝ }
     ensures { λ r. ⌜ r ≡ zeros? (now (passphrase .entry)) ⌝ }
 {
-    (base::long(passphrase, 0) == 0)
-        & (base::long(passphrase, 8) == 0)
-        & (base::long(passphrase, 16) == 0)
-        & (base::long(passphrase, 24) == 0)
+    (numbers::long(passphrase, 0) == 0)
+        & (numbers::long(passphrase, 8) == 0)
+        & (numbers::long(passphrase, 16) == 0)
+        & (numbers::long(passphrase, 24) == 0)
 }
 
 fn possible_security(s: Security) -> bool

@@ -10,10 +10,10 @@ use Rattle.rules.specs.Bytes.{numberAt, zeros?}
 use Rattle.rules.specs.declared.Phase.{Phase}
 use Rattle.store.specs.Store.{phaseOf, record?, recordOf}
 
-pub tested : (s : List ℕ) {phase enabled locked frozen spare : ℕ} {between after : Bool} → length s ≡ 128
-    → phase ≡ numberAt 1 0 s → enabled ≡ numberAt 1 1 s → locked ≡ numberAt 1 2 s → frozen ≡ numberAt 1 3 s → spare ≡ numberAt 1 33 s
+pub tested : (s : List ℕ) {phase enabled locked frozen unused : ℕ} {between after : Bool} → length s ≡ 128
+    → phase ≡ numberAt 1 0 s → enabled ≡ numberAt 1 1 s → locked ≡ numberAt 1 2 s → frozen ≡ numberAt 1 3 s → unused ≡ numberAt 1 33 s
     → between ≡ zeros? (take 26 (drop 38 s)) → after ≡ zeros? (drop 96 s)
-    → (leb phase 4 && leb enabled 1 && leb locked 1 && leb frozen 1 && eqb spare 0 && between && after) ≡ record? s
+    → (leb phase 4 && leb enabled 1 && leb locked 1 && leb frozen 1 && eqb unused 0 && between && after) ≡ record? s
 unfolding record?
 tested s h p q r t u v w = rw (p, q, r, t, u, v, w, h) refl
 

@@ -14,10 +14,10 @@ fn zero_between(s: &[u8]) -> bool
     requires { ⌜ length (now s) ≡ 128 ⌝ }
     ensures { λ r. ⌜ r ≡ zeros? (take 26 (drop 38 (now (s .entry)))) ⌝ }
 {
-    (base::half(s, 38) == 0)
-        & (base::long(s, 40) == 0)
-        & (base::long(s, 48) == 0)
-        & (base::long(s, 56) == 0)
+    (numbers::half(s, 38) == 0)
+        & (numbers::long(s, 40) == 0)
+        & (numbers::long(s, 48) == 0)
+        & (numbers::long(s, 56) == 0)
 }
 
 // Bytes 96 to 127 are zero.
@@ -25,10 +25,10 @@ fn zero_after(s: &[u8]) -> bool
     requires { ⌜ length (now s) ≡ 128 ⌝ }
     ensures { λ r. ⌜ r ≡ zeros? (drop 96 (now (s .entry))) ⌝ }
 {
-    (base::long(s, 96) == 0)
-        & (base::long(s, 104) == 0)
-        & (base::long(s, 112) == 0)
-        & (base::long(s, 120) == 0)
+    (numbers::long(s, 96) == 0)
+        & (numbers::long(s, 104) == 0)
+        & (numbers::long(s, 112) == 0)
+        & (numbers::long(s, 120) == 0)
 }
 
 fn is_record(s: &[u8]) -> bool
@@ -37,14 +37,14 @@ fn is_record(s: &[u8]) -> bool
     if s.len() != 128 {
         return false;
     }
-    let phase = base::byte(s, 0);
-    let enabled = base::byte(s, 1);
-    let locked = base::byte(s, 2);
-    let frozen = base::byte(s, 3);
-    let spare = base::byte(s, 33);
+    let phase = numbers::byte(s, 0);
+    let enabled = numbers::byte(s, 1);
+    let locked = numbers::byte(s, 2);
+    let frozen = numbers::byte(s, 3);
+    let unused = numbers::byte(s, 33);
     let between = zero_between(s);
     let after = zero_after(s);
-    (phase <= 4) & (enabled <= 1) & (locked <= 1) & (frozen <= 1) & (spare == 0) & between & after
+    (phase <= 4) & (enabled <= 1) & (locked <= 1) & (frozen <= 1) & (unused == 0) & between & after
 }
 
 fn phase_of(n: u8) -> Phase
@@ -73,31 +73,31 @@ fn to_record(s: &[u8]) -> Device
     requires { ⌜ length (now s) ≡ 128 ⌝ }
     ensures { λ r. ⌜ r ≡ recordOf (now (s .entry)) ⌝ }
 {
-    let phase = phase_of(base::byte(s, 0));
+    let phase = phase_of(numbers::byte(s, 0));
     let transfer = Transfer {
         phase,
-        contexts: base::word(s, 8),
-        received: base::word(s, 12),
-        ticks: base::byte(s, 5),
-        running: base::long(s, 16),
-        staged: base::long(s, 24),
+        contexts: numbers::word(s, 8),
+        received: numbers::word(s, 12),
+        ticks: numbers::byte(s, 5),
+        running: numbers::long(s, 16),
+        staged: numbers::long(s, 24),
     };
     let thresholds = Thresholds {
-        enable: base::half(s, 6),
-        spare: base::byte(s, 32),
-        media: base::half(s, 34),
-        controller: base::half(s, 36),
+        enable: numbers::half(s, 6),
+        spare: numbers::byte(s, 32),
+        media: numbers::half(s, 34),
+        controller: numbers::half(s, 36),
     };
     let mut passphrase = [0u8; 32];
     base::copy(&mut passphrase, &s[64..96]);
-    let enabled = base::byte(s, 1) == 1;
-    let locked = base::byte(s, 2) == 1;
-    let frozen = base::byte(s, 3) == 1;
+    let enabled = numbers::byte(s, 1) == 1;
+    let locked = numbers::byte(s, 2) == 1;
+    let frozen = numbers::byte(s, 3) == 1;
     let security = Security {
         enabled,
         locked,
         frozen,
-        attempts: base::byte(s, 4),
+        attempts: numbers::byte(s, 4),
         passphrase,
     };
     Device {

@@ -15,7 +15,7 @@ use Rattle.rules.specs.Record.{phaseNumber}
 use Rattle.rules.specs.Refusals.{oneAttemptMore}
 use Rattle.rules.specs.declared.Device.{Device}
 use Rattle.rules.proofs.Choice.{and-true}
-use Rattle.base.proofs.Le.{Bytes, bytes-drop, bytes-take}
+use Rattle.numbers.proofs.Bytes.{Bytes, bytes-drop, bytes-take}
 use Rattle.store.specs.Store.{flag, encodeOf, phaseOf, record?, recordOf, decodeOf}
 use Rattle.store.proofs.Fine.{Fine, fine}
 
@@ -90,7 +90,7 @@ module _ (s : List ℕ) (bytes : Bytes s) (f : Fine s) where
       ++ byte-of 3 (omega arith) (flag-number (numberAt 1 3 s) (f .frozen)) i
       ++ field 1 4 (omega arith) i ++ field 1 5 (omega arith) i ++ field 2 6 (omega arith) i)
       ++ (field 4 8 (omega arith) i ++ field 4 12 (omega arith) i ++ field 8 16 (omega arith) i ++ field 8 24 (omega arith) i)
-      ++ (field 1 32 (omega arith) i ++ byte-of 33 (omega arith) (sym (f .spare)) i ++ field 2 34 (omega arith) i ++ field 2 36 (omega arith) i)
+      ++ (field 1 32 (omega arith) i ++ byte-of 33 (omega arith) (sym (f .unused)) i ++ field 2 34 (omega arith) i ++ field 2 36 (omega arith) i)
       ++ middle i
       ++ (take 32 (drop 64 s) ++ tail i)
 

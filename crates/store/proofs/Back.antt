@@ -13,7 +13,7 @@ use Rattle.rules.specs.declared.Phase.{Phase}
 use Rattle.rules.specs.declared.Phase.the-variants.{Idle, Receiving, Verifying, Staged, Failed}
 use Rattle.rules.specs.declared.Device.{Device}
 use Rattle.base.proofs.Le.{ofLe-le}
-use Rattle.store.specs.Store.{flag, firstBytes, transferBytes, thresholdBytes, encodeOf, phaseOf, record?, recordOf, decodeOf}
+use Rattle.store.specs.Store.{flag, firstBytes, transferBytes, storedThresholds, encodeOf, phaseOf, record?, recordOf, decodeOf}
 
 -- what the types say of a record's fields
 pub record InRange (d : Device) : Type 0 where
@@ -88,7 +88,7 @@ module _ (d : Device) (h : InRange d) where
   pub long : length (encodeOf d) ≡ 128
   unfolding encodeOf
   long =
-      length-append (firstBytes d ++ transferBytes (d .transfer) ++ thresholdBytes (d .thresholds) ++ zeros 26) (pass ++ zeros 32)
+      length-append (firstBytes d ++ transferBytes (d .transfer) ++ storedThresholds (d .thresholds) ++ zeros 26) (pass ++ zeros 32)
       ∙ ap (λ (k : ℕ). 64 + k) (length-append pass (zeros 32) ∙ ap (λ (k : ℕ). k + 32) (h .passphrase))
 
   tail-zero : zeros? (drop 96 (encodeOf d)) ≡ true
@@ -115,13 +115,13 @@ module _ (d : Device) (h : InRange d) where
   unfolding encodeOf
   frozen-is = flag-fine (d .security .frozen)
 
-  spare-is : (numberAt 1 33 (encodeOf d) =? 0) ≡ true
+  unused-is : (numberAt 1 33 (encodeOf d) =? 0) ≡ true
   unfolding encodeOf
-  spare-is = refl
+  unused-is = refl
 
   is-record : record? (encodeOf d) ≡ true
   unfolding record?
-  is-record = rw (long, phase-is, enabled-is, locked-is, frozen-is, spare-is, middle-zero, tail-zero) refl
+  is-record = rw (long, phase-is, enabled-is, locked-is, frozen-is, unused-is, middle-zero, tail-zero) refl
 
   pub back : decodeOf (encodeOf d) ≡ d
   unfolding decodeOf

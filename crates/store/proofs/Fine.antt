@@ -16,7 +16,7 @@ pub record Fine (s : List ℕ) : Type 0 where
   pub enabled : numberAt 1 1 s ≤ 1
   pub locked : numberAt 1 2 s ≤ 1
   pub frozen : numberAt 1 3 s ≤ 1
-  pub spare : numberAt 1 33 s ≡ 0
+  pub unused : numberAt 1 33 s ≡ 0
   pub between : zeros? (take 26 (drop 38 s)) ≡ true
   pub after : zeros? (drop 96 s) ≡ true
 
@@ -36,7 +36,7 @@ fine s e =
       enabled = leb-true (numberAt 1 1 s) 1 (g .1);
       locked = leb-true (numberAt 1 2 s) 1 (f .1);
       frozen = leb-true (numberAt 1 3 s) 1 (d .1);
-      spare = eqb-true (numberAt 1 33 s) 0 (c .1);
+      unused = eqb-true (numberAt 1 33 s) 0 (c .1);
       between = b .1;
       after = a .1;
     }

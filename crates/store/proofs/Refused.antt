@@ -6,7 +6,7 @@ use mathlib.Core.List.{List}
 use Prim.Native.Nat.{ℕ}
 use lib.ListN.{length}
 use Rattle.rules.specs.Record.{possible, possibleTransfer}
-use Rattle.store.specs.Store.{recordSize, record?, impossible, decodeOf}
+use Rattle.store.specs.Store.{storedSize, record?, impossible, decodeOf}
 use Rattle.store.proofs.Fine.{fine}
 
 pub none-possible : possible impossible ≡ false
@@ -24,5 +24,5 @@ from-record s e = go (record? s) refl
     go true p = refl
     go false p = absurd (false≢true (sym (no-record s p) ∙ e))
 
-pub possible-whole : (s : List ℕ) → possible (decodeOf s) ≡ true → length s ≡ recordSize
+pub possible-whole : (s : List ℕ) → possible (decodeOf s) ≡ true → length s ≡ storedSize
 possible-whole s e = fine s (from-record s e) .long

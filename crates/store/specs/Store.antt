@@ -17,8 +17,8 @@ use Rattle.rules.specs.declared.Security.{Security}
 use Rattle.rules.specs.declared.Device.{Device}
 
 -- the bytes of a record
-abbrev pub recordSize : ℕ
-recordSize = 128
+abbrev pub storedSize : ℕ
+storedSize = 128
 
 -- a flag's byte: 0 or 1
 abbrev pub flag : Bool → ℕ
@@ -38,19 +38,19 @@ abbrev pub transferBytes : Transfer → List ℕ
 transferBytes t = le 4 (t .contexts) ++ le 4 (t .received) ++ le 8 (t .running) ++ le 8 (t .staged)
 
 -- 32 spare threshold; 33 zero; 34 to 35 media, 36 to 37 controller temperature threshold
-abbrev pub thresholdBytes : Thresholds → List ℕ
-thresholdBytes h = le 1 (h .spare) ++ zeros 1 ++ le 2 (h .media) ++ le 2 (h .controller)
+abbrev pub storedThresholds : Thresholds → List ℕ
+storedThresholds h = le 1 (h .spare) ++ zeros 1 ++ le 2 (h .media) ++ le 2 (h .controller)
 
 -- 38 to 63 zero; 64 to 95 passphrase; 96 to 127 zero
 unfoldable pub encodeOf : Device → List ℕ
 encodeOf d =
-    firstBytes d ++ transferBytes (d .transfer) ++ thresholdBytes (d .thresholds) ++ zeros 26
+    firstBytes d ++ transferBytes (d .transfer) ++ storedThresholds (d .thresholds) ++ zeros 26
     ++ (d .security .passphrase ++ zeros 32)
 
 -- these bytes are a record's: 128 of them, a phase that there is, each flag 0 or 1, zeros where nothing stands
 unfoldable pub record? : List ℕ → Bool
 record? s =
-    length s =? recordSize
+    length s =? storedSize
     && numberAt 1 0 s ≤? 4
     && numberAt 1 1 s ≤? 1
     && numberAt 1 2 s ≤? 1

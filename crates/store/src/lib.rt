@@ -4,7 +4,7 @@ ghost use mathlib.Core.Path.{_≡_};
 ghost use mathlib.Core.List.{_++_};
 ghost use lib.ListN.{length};
 ghost use Rattle.rules.specs.Bytes.{splice, zeros};
-ghost use Rattle.store.specs.Store.{stateBytes, firstBytes, transferBytes, thresholdBytes, encodeOf};
+ghost use Rattle.store.specs.Store.{stateBytes, firstBytes, transferBytes, storedThresholds, encodeOf};
 use rules::Device;
 use rules::Security;
 use rules::Thresholds;
@@ -44,7 +44,7 @@ fn put_transfer(t: Transfer, out: &mut [u8])
 
 fn put_thresholds(h: Thresholds, out: &mut [u8])
     requires { ⌜ length (now out) ≡ 128 ⌝ }
-    ensures { λ r. ⌜ now (out .exit) ≡ splice 32 (thresholdBytes h) (now (out .entry)) ⌝ }
+    ensures { λ r. ⌜ now (out .exit) ≡ splice 32 (storedThresholds h) (now (out .entry)) ⌝ }
 {
     base::put_at(out, 32, 1, h.spare as u64);
     base::put_at(out, 33, 1, 0);

@@ -14,7 +14,7 @@ pub fn judge_set(request: &[u8]) -> Verdict
     requires { ⌜ length (now request) ≡ 7 ⌝ }
     ensures { λ r. ⌜ r ≡ verdict (thresholdChecks (setThresholdOf (now (request .entry)))) ⌝ }
 {
-    let spare = base::byte(request, 2);
+    let spare = numbers::byte(request, 2);
     let over = 100 < spare;
     if over {
         return Verdict::Refused(Refusal::Status { status: 3, ext: 0 });
@@ -28,10 +28,10 @@ pub fn set(h: Thresholds, request: &[u8]) -> Thresholds
     ensures { λ r. ⌜ r ≡ thresholdChange h (setThresholdOf (now (request .entry))) ⌝ }
 {
     Thresholds {
-        enable: base::half(request, 0) & 7,
-        spare: base::byte(request, 2),
-        media: base::half(request, 3),
-        controller: base::half(request, 5),
+        enable: numbers::half(request, 0) & 7,
+        spare: numbers::byte(request, 2),
+        media: numbers::half(request, 3),
+        controller: numbers::half(request, 5),
     }
 }
 

@@ -36,9 +36,9 @@ pub fn judge_send(t: Transfer, request: &[u8]) -> Verdict
 {
     let p = t.phase;
     let n = record::phase_number(p);
-    let context = base::word(request, 0);
-    let offset = base::word(request, 4);
-    let size = base::word(request, 8);
+    let context = numbers::word(request, 0);
+    let offset = numbers::word(request, 4);
+    let size = numbers::word(request, 8);
     let follows = request.len() - 12;
     let end = offset as u64 + size as u64;
     let wrong = !(size as usize == follows) | (size == 0) | (512 < size) | (16384 < end);
@@ -71,8 +71,8 @@ pub fn judge_finish(t: Transfer, request: &[u8]) -> Verdict
 {
     let p = t.phase;
     let n = record::phase_number(p);
-    let flag = base::byte(request, 0);
-    let context = base::word(request, 4);
+    let flag = numbers::byte(request, 0);
+    let context = numbers::word(request, 4);
     let over = 1 < flag;
     let dead = !live(t, context);
     let out_of_turn = !(n == 1);
@@ -94,7 +94,7 @@ pub fn judge_query(t: Transfer, request: &[u8]) -> Verdict
 {
     let p = t.phase;
     let n = record::phase_number(p);
-    let context = base::word(request, 0);
+    let context = numbers::word(request, 0);
     let dead = !live(t, context);
     let receiving = n == 1;
     let verifying = n == 2;

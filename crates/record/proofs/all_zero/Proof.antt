@@ -1,10 +1,10 @@
--- `record::all_zero` meets its contract. Each number is zero where its eight bytes are, and four of them are all the bytes (base/proofs/Zeros.antt).
+-- `record::all_zero` meets its contract. Each number is zero where its eight bytes are, and four of them are all the bytes (numbers/proofs/Zeros.antt).
 -- Assumes nothing.
 use mathlib.Core.Path.{_∙_, ap}
 use native.Mathlib.Omega.{arith}
 use lib.Seq.{take-all}
 use Rattle.rules.specs.Bytes.{zeros?}
-use Rattle.base.proofs.Zeros.{zero-first, zero-more}
+use Rattle.numbers.proofs.Zeros.{zero-first, zero-more}
 use borrow.Author.Needs.{needs}
 use Rattle.record.proofs.all_zero.Statement.{statement}
 use Rattle.record.proofs.all_zero.Tie as tie

@@ -1,11 +1,11 @@
--- `restore::zero_after` meets its contract. Each number is zero where its bytes are (base/proofs/Zeros.antt), and the four are all that is left.
+-- `restore::zero_after` meets its contract. Each number is zero where its bytes are (numbers/proofs/Zeros.antt), and the four are all that is left.
 -- Assumes nothing.
 use mathlib.Core.Path.{_∙_, ap}
 use native.Mathlib.Omega.{arith}
 use lib.ListN.{drop, length-drop}
 use lib.Seq.{take-all}
 use Rattle.rules.specs.Bytes.{zeros?}
-use Rattle.base.proofs.Zeros.{zero-first, zero-more}
+use Rattle.numbers.proofs.Zeros.{zero-first, zero-more}
 use borrow.Author.Needs.{needs}
 use Rattle.restore.proofs.zero_after.Statement.{statement}
 use Rattle.restore.proofs.zero_after.Tie as tie

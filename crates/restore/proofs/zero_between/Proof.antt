@@ -1,6 +1,6 @@
--- `restore::zero_between` meets its contract. Each number is zero where its bytes are (base/proofs/Zeros.antt).
+-- `restore::zero_between` meets its contract. Each number is zero where its bytes are (numbers/proofs/Zeros.antt).
 -- Assumes nothing.
-use Rattle.base.proofs.Zeros.{zero-first, zero-more}
+use Rattle.numbers.proofs.Zeros.{zero-first, zero-more}
 use borrow.Author.Needs.{needs}
 use Rattle.restore.proofs.zero_between.Statement.{statement}
 use Rattle.restore.proofs.zero_between.Tie as tie

@@ -5,7 +5,7 @@ use mathlib.Core.List.{_++_}
 use native.Mathlib.Omega.{arith}
 use Rattle.rules.specs.Bytes.{zeros}
 use Rattle.base.proofs.Parts.{copy-whole}
-use Rattle.store.specs.Store.{firstBytes, transferBytes, thresholdBytes, encodeOf}
+use Rattle.store.specs.Store.{firstBytes, transferBytes, storedThresholds, encodeOf}
 use Rattle.store.proofs.Built.{Placed, then}
 use Rattle.store.proofs.Back.{long}
 use Rattle.store.proofs.Range.{in-range}
@@ -25,7 +25,7 @@ returns c =
     let d = k .args .d in
     let old = k .args .out .now in
     let first : Placed 0 (firstBytes d) old _ = record { inside = omega arith; is = o .put-first .ensures } in
-    let numbers = then (thresholdBytes (d .thresholds)) (then (transferBytes (d .transfer)) first (p .put-transfer .ensures)) (q .put-thresholds .ensures) in
+    let numbers = then (storedThresholds (d .thresholds)) (then (transferBytes (d .transfer)) first (p .put-transfer .ensures)) (q .put-thresholds .ensures) in
     then (d .security .passphrase ++ zeros 32) (then (zeros 26) numbers (r .put-at .ensures)) (z .put-passphrase .ensures) .is
     ∙ copy-whole (encodeOf d) old (omega (arith, long d (in-range d _ (k .good .0)), k .pre))
 
