@@ -45,7 +45,7 @@ pub fn put_accepted(d: Device, function: Function, revision: u64, answer: &mut [
         Function::Finish => put_status(answer, 0, 0, 4),
         Function::Query => transfer_answers::put_queried(d.transfer, answer),
         Function::SetThreshold => put_status(answer, 0, 0, 4),
-        Function::GetSecurityState => security::answer::put_state(d.security, answer),
+        Function::GetSecurityState => security_answers::put_state(d.security, answer),
         Function::SetPassphrase => put_status(answer, 0, 0, 4),
         Function::Disable => put_status(answer, 0, 0, 4),
         Function::Unlock => put_status(answer, 0, 0, 4),

@@ -44,19 +44,19 @@ pub fn change(
         },
         Function::GetSecurityState => d,
         Function::SetPassphrase => Device {
-            security: security::change::set_passphrase(d.security, &request[32..]),
+            security: security::set_passphrase(d.security, &request[32..]),
             ..d
         },
         Function::Disable => Device {
-            security: security::change::disable(d.security),
+            security: security::disable(d.security),
             ..d
         },
         Function::Unlock => Device {
-            security: security::change::unlock(d.security),
+            security: security::unlock(d.security),
             ..d
         },
         Function::Freeze => Device {
-            security: security::change::freeze(d.security),
+            security: security::freeze(d.security),
             ..d
         },
         Function::Unserved => d,
