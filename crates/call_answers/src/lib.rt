@@ -38,7 +38,7 @@ pub fn put_accepted(d: Device, function: Function, revision: u64, answer: &mut [
 {
     match function {
         Function::Mask => base::put_at(answer, 0, 4, table::mask(revision) as u64),
-        Function::GetThreshold => thresholds::put_answer(d.thresholds, answer),
+        Function::GetThreshold => threshold_answers::put_answer(d.thresholds, answer),
         Function::GetFwInfo => transfer_answers::put_info(d.transfer, answer),
         Function::Start => transfer_answers::put_started(d.transfer, answer),
         Function::Send => put_status(answer, 0, 0, 4),

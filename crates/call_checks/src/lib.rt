@@ -81,7 +81,7 @@ fn judge_function(d: Device, function: Function, revision: u64, request: &[u8]) 
         Function::Send => transfer_checks::judge_send(d.transfer, request),
         Function::Finish => transfer_checks::judge_finish(d.transfer, request),
         Function::Query => transfer_checks::judge_query(d.transfer, request),
-        Function::SetThreshold => thresholds::judge_set(request),
+        Function::SetThreshold => threshold_checks::judge_set(request),
         Function::GetSecurityState => Verdict::Accepted,
         Function::SetPassphrase => security_checks::judge_set_passphrase(
             d.security,

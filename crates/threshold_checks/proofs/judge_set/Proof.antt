@@ -1,9 +1,9 @@
--- `thresholds::judge_set` meets its contract. Each row of the checks is one test, in its order, and the tests are the flags of the code.
+-- `threshold_checks::judge_set` meets its contract. Each row of the checks is one test, in its order, and the tests are the flags of the code.
 -- Assumes nothing.
 use Rattle.rules.specs.Refusals.{verdict}
 use borrow.Author.Needs.{needs}
-use Rattle.thresholds.proofs.judge_set.Statement.{statement}
-use Rattle.thresholds.proofs.judge_set.Tie as tie
+use Rattle.threshold_checks.proofs.judge_set.Statement.{statement}
+use Rattle.threshold_checks.proofs.judge_set.Tie as tie
 
 byte-requires : tie.Need-byte-requires
 byte-requires c κs = search needs

@@ -1,8 +1,8 @@
--- `thresholds::put_answer` meets its contract. The four fields stand in their places over zeros.
+-- `threshold_answers::put_answer` meets its contract. The four fields stand in their places over zeros.
 -- Assumes nothing.
 use borrow.Author.Needs.{needs}
-use Rattle.thresholds.proofs.put_answer.Statement.{statement}
-use Rattle.thresholds.proofs.put_answer.Tie as tie
+use Rattle.threshold_answers.proofs.put_answer.Statement.{statement}
+use Rattle.threshold_answers.proofs.put_answer.Tie as tie
 
 returns : tie.Need-returns
 returns c = simp (c .before .before .before .before .before .before .before .before .before .before .before .before .before .before .before .before .before .before .put-at .ensures, c .before .before .before .before .before .before .before .before .before .before .before .before .before .before .put-at2 .ensures, c .before .before .before .before .before .before .before .before .before .before .put-at3 .ensures, c .before .before .before .before .before .before .put-at4 .ensures, c .before .before .copy .ensures)
