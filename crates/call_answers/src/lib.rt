@@ -38,14 +38,14 @@ pub fn put_accepted(d: Device, function: Function, revision: u64, answer: &mut [
 {
     match function {
         Function::Mask => base::put_at(answer, 0, 4, table::mask(revision) as u64),
-        Function::GetThreshold => thresholds::put_answer(d.thresholds, answer),
+        Function::GetThreshold => threshold_answers::put_answer(d.thresholds, answer),
         Function::GetFwInfo => transfer_answers::put_info(d.transfer, answer),
         Function::Start => transfer_answers::put_started(d.transfer, answer),
         Function::Send => put_status(answer, 0, 0, 4),
         Function::Finish => put_status(answer, 0, 0, 4),
         Function::Query => transfer_answers::put_queried(d.transfer, answer),
         Function::SetThreshold => put_status(answer, 0, 0, 4),
-        Function::GetSecurityState => security::answer::put_state(d.security, answer),
+        Function::GetSecurityState => security_answers::put_state(d.security, answer),
         Function::SetPassphrase => put_status(answer, 0, 0, 4),
         Function::Disable => put_status(answer, 0, 0, 4),
         Function::Unlock => put_status(answer, 0, 0, 4),

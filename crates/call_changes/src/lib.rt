@@ -1,12 +1,35 @@
 // What an accepted call changes: the part of the record that its function works on, and the area of a Send.
 ghost use mathlib.Core.Path.{_≡_};
 ghost use lib.ListN.{length};
+ghost use Rattle.rules.specs.With.{_with-transfer_, _with-thresholds_, _with-security_};
 ghost use Rattle.rules.specs.Refusals.{verdict};
 ghost use Rattle.rules.specs.Module.{callOf, checks, change, changeArea};
 ghost use Rattle.rules.proofs.Fitting.{Fitting};
 use rules::Device;
 use rules::Function;
+use rules::Security;
+use rules::Thresholds;
+use rules::Transfer;
 use rules::Verdict;
+
+// One part of the record changed, and the others as they were.
+fn with_transfer(d: Device, transfer: Transfer) -> Device
+    ensures { λ r. ⌜ r ≡ d with-transfer transfer ⌝ }
+{
+    Device { transfer, ..d }
+}
+
+fn with_thresholds(d: Device, thresholds: Thresholds) -> Device
+    ensures { λ r. ⌜ r ≡ d with-thresholds thresholds ⌝ }
+{
+    Device { thresholds, ..d }
+}
+
+fn with_security(d: Device, security: Security) -> Device
+    ensures { λ r. ⌜ r ≡ d with-security security ⌝ }
+{
+    Device { security, ..d }
+}
 
 pub fn change(
     d: Device,
@@ -25,40 +48,19 @@ pub fn change(
         Function::Mask => d,
         Function::GetThreshold => d,
         Function::GetFwInfo => d,
-        Function::Start => Device {
-            transfer: transfer::start(d.transfer),
-            ..d
-        },
-        Function::Send => Device {
-            transfer: transfer::send(d.transfer, area, request),
-            ..d
-        },
-        Function::Finish => Device {
-            transfer: transfer::finish(d.transfer, request),
-            ..d
-        },
+        Function::Start => with_transfer(d, transfer::start(d.transfer)),
+        Function::Send => with_transfer(d, transfer::send(d.transfer, area, request)),
+        Function::Finish => with_transfer(d, transfer::finish(d.transfer, request)),
         Function::Query => d,
-        Function::SetThreshold => Device {
-            thresholds: thresholds::set(d.thresholds, request),
-            ..d
-        },
+        Function::SetThreshold => with_thresholds(d, thresholds::set(d.thresholds, request)),
         Function::GetSecurityState => d,
-        Function::SetPassphrase => Device {
-            security: security::change::set_passphrase(d.security, &request[32..]),
-            ..d
-        },
-        Function::Disable => Device {
-            security: security::change::disable(d.security),
-            ..d
-        },
-        Function::Unlock => Device {
-            security: security::change::unlock(d.security),
-            ..d
-        },
-        Function::Freeze => Device {
-            security: security::change::freeze(d.security),
-            ..d
-        },
+        Function::SetPassphrase => with_security(
+            d,
+            security::set_passphrase(d.security, &request[32..]),
+        ),
+        Function::Disable => with_security(d, security::disable(d.security)),
+        Function::Unlock => with_security(d, security::unlock(d.security)),
+        Function::Freeze => with_security(d, security::freeze(d.security)),
         Function::Unserved => d,
     }
 }

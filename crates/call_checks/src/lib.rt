@@ -81,15 +81,15 @@ fn judge_function(d: Device, function: Function, revision: u64, request: &[u8]) 
         Function::Send => transfer_checks::judge_send(d.transfer, request),
         Function::Finish => transfer_checks::judge_finish(d.transfer, request),
         Function::Query => transfer_checks::judge_query(d.transfer, request),
-        Function::SetThreshold => thresholds::judge_set(request),
+        Function::SetThreshold => threshold_checks::judge_set(request),
         Function::GetSecurityState => Verdict::Accepted,
-        Function::SetPassphrase => security::checks::judge_set_passphrase(
+        Function::SetPassphrase => security_checks::judge_set_passphrase(
             d.security,
             &request[..32],
         ),
-        Function::Disable => security::checks::judge_disable(d.security, request),
-        Function::Unlock => security::checks::judge_unlock(d.security, request),
-        Function::Freeze => security::checks::judge_freeze(d.security),
+        Function::Disable => security_checks::judge_disable(d.security, request),
+        Function::Unlock => security_checks::judge_unlock(d.security, request),
+        Function::Freeze => security_checks::judge_freeze(d.security),
         Function::Unserved => Verdict::Accepted,
     }
 }

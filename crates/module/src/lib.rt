@@ -82,7 +82,7 @@ pub fn power(d: Device, area: &[u8]) -> Outcome
     match verdict {
         Verdict::Accepted => {
             let transfer = transfer_time::power(d.transfer);
-            let security = security::change::power(d.security);
+            let security = security::power(d.security);
             let started = Device {
                 transfer,
                 security,

@@ -54,57 +54,59 @@ returns-3 c = let a = c .before .before .before .before .args in changed (a .d) 
 
 returns-4 : tie.Need-returns-4
 returns-4 c =
-    let a = c .before .before .before .before .before .before .before .args in
-    changed (a .d) (a .revision) (a .request .now) (a .area .now) (c .before .before .before .enum-told4 .given .1) (ap (λ (x : Transfer). a .d with-transfer x) (c .before .before .start .ensures)) refl
+    let a = c .before .before .before .before .before .before .args in
+    changed (a .d) (a .revision) (a .request .now) (a .area .now) (c .before .before .enum-told4 .given .1) (c .with-transfer .ensures ∙ ap (λ (x : Transfer). a .d with-transfer x) (c .before .start .ensures)) refl
 
 returns-5 : tie.Need-returns-5
 returns-5 c =
-    let a = c .before .before .before .before .before .before .before .before .before .before .args in
-    let s = c .before .before .before .before in
-    changed (a .d) (a .revision) (a .request .now) (a .area .now) (s .before .before .enum-told5 .given .1) (ap (λ (x : Transfer). a .d with-transfer x) (s .send .ensures .0)) (s .send .ensures .1)
+    let a = c .before .before .before .before .before .before .before .before .before .args in
+    let s = c .before .before .before in
+    changed (a .d) (a .revision) (a .request .now) (a .area .now) (s .before .before .enum-told5 .given .1) (c .with-transfer2 .ensures ∙ ap (λ (x : Transfer). a .d with-transfer x) (s .send .ensures .0)) (s .send .ensures .1)
 
 returns-6 : tie.Need-returns-6
 returns-6 c =
-    let a = c .before .before .before .before .before .before .before .args in
-    changed (a .d) (a .revision) (a .request .now) (a .area .now) (c .before .before .before .enum-told6 .given .1) (ap (λ (x : Transfer). a .d with-transfer x) (c .before .before .finish .ensures)) refl
+    let a = c .before .before .before .before .before .before .args in
+    changed (a .d) (a .revision) (a .request .now) (a .area .now) (c .before .before .enum-told6 .given .1) (c .with-transfer3 .ensures ∙ ap (λ (x : Transfer). a .d with-transfer x) (c .before .finish .ensures)) refl
 
 returns-7 : tie.Need-returns-7
 returns-7 c = let a = c .before .before .before .before .args in changed (a .d) (a .revision) (a .request .now) (a .area .now) (c .enum-told7 .given .1) refl refl
 
 returns-8 : tie.Need-returns-8
 returns-8 c =
-    let a = c .before .before .before .before .before .before .before .args in
-    changed (a .d) (a .revision) (a .request .now) (a .area .now) (c .before .before .before .enum-told8 .given .1) (ap (λ (x : Thresholds). a .d with-thresholds x) (c .before .before .set .ensures)) refl
+    let a = c .before .before .before .before .before .before .args in
+    changed (a .d) (a .revision) (a .request .now) (a .area .now) (c .before .before .enum-told8 .given .1) (c .with-thresholds .ensures ∙ ap (λ (x : Thresholds). a .d with-thresholds x) (c .before .set .ensures)) refl
 
 returns-9 : tie.Need-returns-9
 returns-9 c = let a = c .before .before .before .before .args in changed (a .d) (a .revision) (a .request .now) (a .area .now) (c .enum-told9 .given .1) refl refl
 
 returns-10 : tie.Need-returns-10
 returns-10 c =
-    let a = c .before .before .before .before .before .before .before .before .args in
-    changed (a .d) (a .revision) (a .request .now) (a .area .now) (c .before .before .before .before .enum-told10 .given .1)
-    (ap (λ (x : Security). a .d with-security x) (c .before .before .set-passphrase .ensures ∙ ap (setPassphraseChange (a .d .security)) (rest 32 (a .request .now)))) refl
+    let a = c .before .before .before .before .before .before .before .args in
+    changed (a .d) (a .revision) (a .request .now) (a .area .now) (c .before .before .before .enum-told10 .given .1)
+    (c .with-security .ensures ∙ ap (λ (x : Security). a .d with-security x) (c .before .set-passphrase .ensures ∙ ap (setPassphraseChange (a .d .security)) (rest 32 (a .request .now)))) refl
 
 returns-11 : tie.Need-returns-11
 returns-11 c =
-    let a = c .before .before .before .before .before .before .before .args in
-    changed (a .d) (a .revision) (a .request .now) (a .area .now) (c .before .before .before .enum-told11 .given .1) (ap (λ (x : Security). a .d with-security x) (c .before .before .disable .ensures)) refl
+    let a = c .before .before .before .before .before .before .args in
+    changed (a .d) (a .revision) (a .request .now) (a .area .now) (c .before .before .enum-told11 .given .1) (c .with-security2 .ensures ∙ ap (λ (x : Security). a .d with-security x) (c .before .disable .ensures)) refl
 
 returns-12 : tie.Need-returns-12
 returns-12 c =
-    let a = c .before .before .before .before .before .before .before .args in
-    changed (a .d) (a .revision) (a .request .now) (a .area .now) (c .before .before .before .enum-told12 .given .1) (ap (λ (x : Security). a .d with-security x) (c .before .before .unlock .ensures)) refl
+    let a = c .before .before .before .before .before .before .args in
+    changed (a .d) (a .revision) (a .request .now) (a .area .now) (c .before .before .enum-told12 .given .1) (c .with-security3 .ensures ∙ ap (λ (x : Security). a .d with-security x) (c .before .unlock .ensures)) refl
 
 returns-13 : tie.Need-returns-13
 returns-13 c =
-    let a = c .before .before .before .before .before .before .before .args in
-    changed (a .d) (a .revision) (a .request .now) (a .area .now) (c .before .before .before .enum-told13 .given .1) (ap (λ (x : Security). a .d with-security x) (c .before .before .freeze .ensures)) refl
+    let a = c .before .before .before .before .before .before .args in
+    changed (a .d) (a .revision) (a .request .now) (a .area .now) (c .before .before .enum-told13 .given .1) (c .with-security4 .ensures ∙ ap (λ (x : Security). a .d with-security x) (c .before .freeze .ensures)) refl
 
 returns-14 : tie.Need-returns-14
 returns-14 c = let a = c .before .before .before .before .args in changed (a .d) (a .revision) (a .request .now) (a .area .now) (c .enum-told14 .given .1) refl refl
 
--- by search: enum-told-2, enum-told-3, enum-told-4, enum-told-5, enum-told-6, enum-told-7, enum-told-8, enum-told-9, enum-told-10,
--- part-set-passphrase-end, enum-told-11, disable-requires, enum-told-12, unlock-requires, enum-told-13, freeze-requires, enum-told-14, same-length
+-- by search: enum-told-2, enum-told-3, enum-told-4, with-transfer-requires, enum-told-5, with-transfer-requires-2, enum-told-6,
+-- with-transfer-requires-3, enum-told-7, enum-told-8, with-thresholds-requires, enum-told-9, enum-told-10, part-set-passphrase-end,
+-- with-security-requires, enum-told-11, disable-requires, with-security-requires-2, enum-told-12, unlock-requires, with-security-requires-3,
+-- enum-told-13, freeze-requires, with-security-requires-4, enum-told-14, same-length
 pub change-spec : {M : Type 1} → statement M
 change-spec =
     tie.close
@@ -114,24 +116,32 @@ change-spec =
     (λ c. search needs)
     (λ c. search needs)
     start-requires
+    (λ c κs. search needs)
     (λ c. search needs)
     send-requires
+    (λ c κs. search needs)
     (λ c. search needs)
     finish-requires
+    (λ c κs. search needs)
     (λ c. search needs)
     (λ c. search needs)
     set-requires
+    (λ c κs. search needs)
     (λ c. search needs)
     (λ c. search needs)
     sub-set-passphrase
     part-set-passphrase-start
     (λ c. search needs)
     set-passphrase-requires
-    (λ c. search needs)
     (λ c κs. search needs)
     (λ c. search needs)
     (λ c κs. search needs)
+    (λ c κs. search needs)
     (λ c. search needs)
+    (λ c κs. search needs)
+    (λ c κs. search needs)
+    (λ c. search needs)
+    (λ c κs. search needs)
     (λ c κs. search needs)
     (λ c. search needs)
     returns

@@ -1,0 +1,19 @@
+// Document 01, "Thresholds": the check of Set Threshold.
+ghost use mathlib.Core.Path.{_≡_};
+ghost use lib.ListN.{length};
+ghost use Rattle.rules.specs.Refusals.{verdict};
+ghost use Rattle.rules.specs.Thresholds.{setThresholdOf, thresholdChecks};
+use rules::Refusal;
+use rules::Verdict;
+
+pub fn judge_set(request: &[u8]) -> Verdict
+    requires { ⌜ length (now request) ≡ 7 ⌝ }
+    ensures { λ r. ⌜ r ≡ verdict (thresholdChecks (setThresholdOf (now (request .entry)))) ⌝ }
+{
+    let spare = numbers::byte(request, 2);
+    let over = 100 < spare;
+    if over {
+        return Verdict::Refused(Refusal::Status { status: 3, ext: 0 });
+    }
+    Verdict::Accepted
+}
