@@ -132,7 +132,7 @@ int32_t module_fresh(uint8_t *record, size_t record_len);
 
 /* One call of a host: a function of the table at a revision, with its request.
  *
- * Reads:   record, area, request.
+ * Reads:   record, request, the lengths of area and answer; none of their bytes.
  * Writes:  the answer's bytes at the front of answer, and no byte behind them. Where the call is accepted, also record and
  *          area, as the function says: of the area at most the piece of a Send. Where it is refused by a status, nothing
  *          else, but for status 11 (wrong passphrase), which adds one to the wrong attempts in the record.

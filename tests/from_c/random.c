@@ -4,7 +4,7 @@
  *
  * Each turn takes a record, an area, a request and an answer buffer, gives both sides their own copies of the same bytes, and
  * compares what they answer and every byte afterwards, guards included. The first difference is printed, and the exit
- * status is then 1. */
+ * status is then 1; so it is where a run of LONG turns or more never reached what such a run must. */
 #include <stdio.h>
 #include <stdlib.h>
 #include <string.h>
@@ -378,6 +378,7 @@ static void show(const struct turn *turn, uint64_t number, const char *what, con
 /* ---- What came up ---- */
 
 static uint64_t tally[4][16], stagings, failures;
+static const char *const names[] = {"fresh", "calls", "ticks", "power cycles"};
 
 /* Answers by kind: 1 to 3 the R numbers, 4 on the statuses. */
 static void count(const struct turn *turn)
@@ -396,8 +397,6 @@ static void count(const struct turn *turn)
 
 static void report(uint64_t turns)
 {
-    static const char *const names[] = {"fresh", "calls", "ticks", "power cycles"};
-
     printf("%llu turns agree, no guard touched\n", (unsigned long long)turns);
     for (int event = FRESH; event <= POWER; event++) {
         uint64_t *row = tally[event];
@@ -412,6 +411,39 @@ static void report(uint64_t turns)
             printf("\n");
     }
     printf("verified: %llu staged, %llu failed\n", (unsigned long long)stagings, (unsigned long long)failures);
+}
+
+/* So many turns come to each of these ten times or so at least, whatever the seed. A run that never did has compared less than
+ * it says. */
+enum { LONG = 100000 };
+
+static const struct {
+    enum event event;
+    uint8_t kind;
+    const char *what;
+} must[] = {
+    {FRESH, 3, "R3"},           {CALL, 1, "R1"},             {CALL, 2, "R2"},             {CALL, 3, "R3"},
+    {CALL, 4 + 0, "status 0"},  {CALL, 4 + 1, "status 1"},   {CALL, 4 + 3, "status 3"},   {CALL, 4 + 6, "status 6"},
+    {CALL, 4 + 7, "status 7"},  {CALL, 4 + 8, "status 8"},   {CALL, 4 + 10, "status 10"}, {CALL, 4 + 11, "status 11"},
+    {TICK, 2, "R2"},            {TICK, 3, "R3"},             {POWER, 2, "R2"},            {POWER, 3, "R3"},
+};
+
+static bool reached(uint64_t count, const char *who, const char *what)
+{
+    if (count == 0)
+        printf("never reached: %s: %s\n", who, what);
+    return count != 0;
+}
+
+static bool reached_all(void)
+{
+    bool all = true;
+
+    for (size_t i = 0; i < sizeof must / sizeof *must; i++)
+        all &= reached(tally[must[i].event][must[i].kind], names[must[i].event], must[i].what);
+    all &= reached(stagings, names[TICK], "a staging");
+    all &= reached(failures, names[TICK], "a failed verification");
+    return all;
 }
 
 /* The next turn may go on from this one, unless the record was refused. */
@@ -444,5 +476,5 @@ int main(int words, char **word)
         go_on(&turn);
     }
     report(turns);
-    return 0;
+    return turns < LONG || reached_all() ? 0 : 1;
 }

@@ -19,13 +19,14 @@ use Rattle.rules.proofs.Passed.{passed}
 pub start-left : (t : Transfer) → verdict (startChecks t) ≡ Accepted → t .contexts ≡ lastContext → ⊥
 start-left t e = eqb-false (t .contexts) lastContext (passed (startChecks t) e .1 .1 .0)
 
--- a Send that is accepted: its length is that of its piece, and it ends inside the area
-pub record SendFits (offset size : ℕ) (piece : List ℕ) : Type 0 where
+-- a Send that is accepted: its length is that of its piece, it ends inside the area, and it goes on where the last one stopped
+pub record SendFits (t : Transfer) (offset size : ℕ) (piece : List ℕ) : Type 0 where
   pub whole : size ≡ length piece
   pub inside : offset + size ≤ areaSize
+  pub goes-on : offset ≡ t .received
 
 pub send-fits : (t : Transfer) (context offset size : ℕ) (piece : List ℕ) → verdict (sendChecks t context offset size piece) ≡ Accepted
-    → SendFits offset size piece
+    → SendFits t offset size piece
 send-fits t context offset size piece e =
     let tests = passed (sendChecks t context offset size piece) e in
     let long = or-false (not (size =? length piece) || size =? 0 || longestPiece <? size) (areaSize <? offset + size) (tests .0) in
@@ -34,4 +35,5 @@ send-fits t context offset size piece e =
     record {
       whole = eqb-true size (length piece) (not-false (size =? length piece) (exact .0));
       inside = ltb-false areaSize (offset + size) (long .1);
+      goes-on = eqb-true offset (t .received) (not-false (offset =? t .received) (tests .1 .1 .0));
     }

@@ -1,5 +1,5 @@
--- Any two results that a promise of the form "the result is .." allows agree. The promises of every public function but the entry points have that form, one
--- equation for each thing that comes out; the entry points' own theorem is crates/module/proofs/Agree.antt.
+-- Any two results that a promise of the form "the result is .." allows agree: where a promise is plain equations, one for each thing that comes out, this is
+-- its theorem. docs/DECISIONS.md (h) lists the others, each with a theorem of its own.
 -- Assumes nothing.
 use mathlib.Core.Path.{_≡_, sym, _∙_}
 

@@ -145,16 +145,16 @@ abbrev pub receivedBytes : Transfer → (area : List ℕ) → List ℕ
 receivedBytes t area = take (t .received) area
 
 -- "With 1 [tick left]: ticks left 0, and Staged with the image's version if the received bytes are a good image, else Failed."
-abbrev pub verified : Transfer → Image → Transfer
-verified t (Good version) = t with-ticks 0 with-phase Staged with-staged version
-verified t Bad = t with-ticks 0 with-phase Failed
+abbrev pub afterVerifying : Transfer → Image → Transfer
+afterVerifying t (Good version) = t with-ticks 0 with-phase Staged with-staged version
+afterVerifying t Bad = t with-ticks 0 with-phase Failed
 
 -- "Tick. .. In Verifying with more than 1 tick left: one less." "Other phases: no change."
 abbrev pub tickChange : Transfer → (area : List ℕ) → Transfer
 tickChange t area =
     if not (t .phase is Verifying) then t
     else if 1 <? t .ticks then t with-ticks (t .ticks - 1)
-    else verified t (imageOf (receivedBytes t area))
+    else afterVerifying t (imageOf (receivedBytes t area))
 
 -- "Power cycle. From Staged the staged version becomes the running one."
 abbrev pub runningAfter : Transfer → ℕ

@@ -2,13 +2,13 @@
 ghost use mathlib.Core.Path.{_≡_};
 ghost use Prim.Native.Nat.{_≤_};
 ghost use lib.ListN.{length};
-ghost use Rattle.rules.specs.Transfer.{tickChange, verified, transferPower, runningAfter};
+ghost use Rattle.rules.specs.Transfer.{tickChange, afterVerifying, transferPower, runningAfter};
 use rules::Image;
 use rules::Phase;
 use rules::Transfer;
 
 fn verified(t: Transfer, image: Image) -> Transfer
-    ensures { λ r. ⌜ r ≡ verified t image ⌝ }
+    ensures { λ r. ⌜ r ≡ afterVerifying t image ⌝ }
 {
     match image {
         Image::Good { version } => Transfer {

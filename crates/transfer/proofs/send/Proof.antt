@@ -13,7 +13,7 @@ use Rattle.transfer.proofs.send.Statement.{statement}
 use Rattle.transfer.proofs.send.Tie as tie
 
 -- what acceptance says of the numbers that were read
-fits : (c : tie.After-word2) → SendFits (c .before .word .result) (c .word2 .result) (drop 12 (c .before .before .before .before .args .request .now))
+fits : (c : tie.After-word2) → SendFits (c .before .before .before .before .args .t) (c .before .word .result) (c .word2 .result) (drop 12 (c .before .before .before .before .args .request .now))
 fits c =
     let a = c .before .before .before .before .args in
     let q = a .request .now in
