@@ -13,6 +13,7 @@ built() {
         return 0
     fi
     say "$why: $how, which takes a while"
+    . "$root/tools/prover.sh"
     began=$root/target/.${file##*/}.began
     if ! { mkdir -p "$root/target" && touch "$began" && (cd "$root" && "$@") >&2 </dev/null; }; then
         # it may stand there compiled and yet have failed its run: no later use may take it
