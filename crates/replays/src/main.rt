@@ -67,6 +67,7 @@ fn replay_filled(
     requires { ⌜ filled .have ≤ 65280 ⌝ }
     requires { ⌜ turn .number ≤ 9000000000000000000 ⌝ }
     ensures { λ r. ⌜ r .number ≡ turn .number + filled .have / 544 ⌝ }
+    ensures { λ r. ⌜ r .number ≤ turn .number + 120 ⌝ }
 {
     let have = filled.have;
     let played = put_part(out, buf, have, turn.number, turn.device, area, answer);

@@ -16,7 +16,15 @@ put-lines-requires c κs =
     let long = length-take-le (k .args .have) (k .args .buf .now) (k .pre .0 .1) in
     (rw long (omega (arith, k .pre .0, k .pre .1 .1 .0)), (rw long (omega (arith, k .pre .0 .0, k .pre .1 .0)), k .pre .1 .1 .1))
 
--- by search: same-length, same-length-2, same-length-3, returns
+returns : tie.Need-returns
+returns c =
+    let q = c .before .before .before .before .before .before in
+    let k = q .before .before .before .before .before .before .before .before .before in
+    let long = length-take-le (k .args .have) (k .args .buf .now) (k .pre .0 .1) in
+    let few = q .put-lines .ensures .0 in
+    (omega (arith, few, long, k .pre .0 .0), q .put-lines .ensures .1)
+
+-- by search: same-length, same-length-2, same-length-3
 pub put-part-spec : {M : Type 1} → statement M
 put-part-spec =
     tie.close
@@ -26,4 +34,4 @@ put-part-spec =
     (λ c. search needs)
     (λ c. search needs)
     (λ c. search needs)
-    (λ c. search needs))
+    returns)
