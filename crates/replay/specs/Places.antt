@@ -29,7 +29,11 @@ abbrev pub PlaceReplayed : (number : ℕ) → Module → (log : List ℕ) (place
 PlaceReplayed number m log place old at new area played =
     Replayed (foundLine number m (stoodAt log place .found) (recordAt log place)) (foundPlayed m (stoodAt log place .found) (recordAt log place)) old at new area played
 
+-- the module after the records of a part of a log
+abbrev pub partPlayed : Module → (part : List ℕ) → Module
+partPlayed m part = moduleAfter m part (recordsIn part)
+
 -- the records of a part of a log were played, and their lines were written from the front on
 abbrev pub PartReplayed : (number : ℕ) → Module → (part old new area : List ℕ) → Played → Type 0
 PartReplayed number m part old new area played =
-    Replayed (recordLines number m part (recordsIn part)) (moduleAfter m part (recordsIn part)) old 0 new area played
+    Replayed (recordLines number m part (recordsIn part)) (partPlayed m part) old 0 new area played

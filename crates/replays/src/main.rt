@@ -4,7 +4,7 @@ ghost use Prim.Native.Nat.{_+_, _/_, _≤_};
 ghost use mathlib.Core.Path.{_≡_};
 ghost use lib.ListN.{length, take};
 ghost use Rattle.play.specs.Replayed.{moduleOf};
-ghost use Rattle.replay.specs.Places.{PartReplayed};
+ghost use Rattle.replay.specs.Places.{PartReplayed, partPlayed};
 use files::Filled;
 use files::PART;
 use files::RECORD;
@@ -68,6 +68,7 @@ fn replay_filled(
     requires { ⌜ turn .number ≤ 9000000000000000000 ⌝ }
     ensures { λ r. ⌜ r .number ≡ turn .number + filled .have / 544 ⌝ }
     ensures { λ r. ⌜ r .number ≤ turn .number + 120 ⌝ }
+    ensures { λ r. ⌜ moduleOf (r .device) (now (area .exit)) ≡ partPlayed (moduleOf (turn .device) (now (area .entry))) (take (filled .have) (now (buf .entry))) ⌝ }
 {
     let have = filled.have;
     let played = put_part(out, buf, have, turn.number, turn.device, area, answer);

@@ -15,7 +15,7 @@ abbrev μ-loop : tie.MeasureT-loop
 loop-holds : tie.Need-loop-holds Inv-loop μ-loop
 loop-holds c =
     let first = c .before .before .before .before .before .first .ensures in
-    omega (arith, c .replay-filled .ensures .1, first .1)
+    omega (arith, c .replay-filled .ensures .1 .0, first .1)
 
 -- by search: fill-requires, fail-requires, returns, show-heading-requires, returns-2, first-requires, replay-filled-requires, returns-3,
 -- fill-requires-2, replay-filled-requires-2, sub-turns, loop-less, loop-again, returns-4
