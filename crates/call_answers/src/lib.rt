@@ -3,6 +3,7 @@ ghost use mathlib.Core.Path.{_≡_};
 ghost use mathlib.Core.List.{List, _++_};
 ghost use Prim.Native.Nat.{ℕ, _≤_, _-_};
 ghost use lib.ListN.{length};
+ghost use Rattle.rules.specs.Numbers.{answerRoom};
 ghost use Rattle.rules.specs.Bytes.{zeros};
 ghost use Rattle.rules.specs.Refusals.{statusBytes, statusLength, answerAfter};
 ghost use Rattle.rules.specs.Module.{callOf, acceptedAnswer};
@@ -33,7 +34,7 @@ pub fn put_status(answer: &mut [u8], status: u16, ext: u16, size: usize)
 
 // What an accepted call answers, which its request has no part in.
 pub fn put_accepted(d: Device, function: Function, revision: u64, answer: &mut [u8])
-    requires { ⌜ 64 ≤ length (now answer) ⌝ }
+    requires { ⌜ answerRoom ≤ length (now answer) ⌝ }
     ensures { λ r. ⌜ ((request : List ℕ) → now (answer .exit) ≡ answerAfter (acceptedAnswer d (callOf function revision request)) (now (answer .entry))) ⌝ }
 {
     match function {

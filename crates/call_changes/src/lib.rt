@@ -1,6 +1,7 @@
 // What an accepted call changes: the part of the record that its function works on, and the area of a Send.
 ghost use mathlib.Core.Path.{_≡_};
 ghost use lib.ListN.{length};
+ghost use Rattle.rules.specs.Numbers.{areaSize};
 ghost use Rattle.rules.specs.With.{_with-transfer_, _with-thresholds_, _with-security_};
 ghost use Rattle.rules.specs.Refusals.{verdict};
 ghost use Rattle.rules.specs.Module.{callOf, checks, change, changeArea};
@@ -38,7 +39,7 @@ pub fn change(
     revision: u64,
     request: &[u8],
 ) -> Device
-    requires { ⌜ length (now area) ≡ 16384 ⌝ }
+    requires { ⌜ length (now area) ≡ areaSize ⌝ }
     requires { ⌜ Fitting function (length (now request)) ⌝ }
     requires { ⌜ verdict (checks d (callOf function revision (now request))) ≡ Verdict.Accepted ⌝ }
     ensures { λ r. ⌜ r ≡ change d (callOf function revision (now (request .entry))) ⌝ }

@@ -4,15 +4,15 @@ ghost use mathlib.Core.Bool.{true};
 ghost use Prim.Native.Nat.{_+_, _≤_};
 ghost use lib.ListN.{length};
 ghost use Rattle.rules.specs.Replay.{printedStatus, printedExt, callLine, heading, tailLine, lastLine};
-ghost use Rattle.text.specs.Wrote.{Wrote};
+ghost use Rattle.text.specs.Wrote.{Wrote, lineRoom};
 use rules::Device;
 use rules::Refusal;
 use rules::Reply;
 use rules::Verdict;
 
 pub fn put_heading(out: &mut [u8], at: usize) -> usize
-    requires { ⌜ at + 96 ≤ length (now out) ⌝ }
-    ensures { λ r. ⌜ r ≤ at + 96 ⌝ }
+    requires { ⌜ at + lineRoom ≤ length (now out) ⌝ }
+    ensures { λ r. ⌜ r ≤ at + lineRoom ⌝ }
     ensures { λ r. ⌜ Wrote (now (out .entry)) at heading (now (out .exit)) r ⌝ }
 {
     text::put(out, at, b"record kind status ext length\n")
@@ -20,16 +20,16 @@ pub fn put_heading(out: &mut [u8], at: usize) -> usize
 
 // The line of a tail that is no whole record.
 pub fn put_tail(out: &mut [u8], at: usize, number: u64) -> usize
-    requires { ⌜ at + 96 ≤ length (now out) ⌝ }
-    ensures { λ r. ⌜ r ≤ at + 96 ⌝ }
+    requires { ⌜ at + lineRoom ≤ length (now out) ⌝ }
+    ensures { λ r. ⌜ r ≤ at + lineRoom ⌝ }
     ensures { λ r. ⌜ Wrote (now (out .entry)) at (tailLine number true) (now (out .exit)) r ⌝ }
 {
     text::put_field(out, at, number, b" short\n")
 }
 
 pub fn put_last(out: &mut [u8], at: usize, d: Device) -> usize
-    requires { ⌜ at + 96 ≤ length (now out) ⌝ }
-    ensures { λ r. ⌜ r ≤ at + 96 ⌝ }
+    requires { ⌜ at + lineRoom ≤ length (now out) ⌝ }
+    ensures { λ r. ⌜ r ≤ at + lineRoom ⌝ }
     ensures { λ r. ⌜ Wrote (now (out .entry)) at (lastLine d) (now (out .exit)) r ⌝ }
 {
     let transfer = d.transfer;
@@ -66,8 +66,8 @@ fn printed_ext(verdict: Verdict) -> u64
 
 // The line of a call. Function 0 has no status to print.
 pub fn put_call(out: &mut [u8], at: usize, number: u64, function: u64, reply: Reply) -> usize
-    requires { ⌜ at + 96 ≤ length (now out) ⌝ }
-    ensures { λ r. ⌜ r ≤ at + 96 ⌝ }
+    requires { ⌜ at + lineRoom ≤ length (now out) ⌝ }
+    ensures { λ r. ⌜ r ≤ at + lineRoom ⌝ }
     ensures { λ r. ⌜ Wrote (now (out .entry)) at (callLine number function reply) (now (out .exit)) r ⌝ }
 {
     let verdict = reply.verdict;

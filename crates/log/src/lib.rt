@@ -2,14 +2,14 @@
 ghost use mathlib.Core.Path.{_≡_};
 ghost use lib.ListN.{length};
 ghost use Rattle.rules.specs.Tests.{if_then_else_};
-ghost use Rattle.rules.specs.Log.{entryOf, goodCall, bare};
+ghost use Rattle.rules.specs.Log.{recordSize, entryOf, goodCall, bare};
 ghost use Rattle.rules.specs.declared.Entry.the-variants.{Bad};
 ghost use Rattle.log.specs.Call.{callEntry};
 use rules::Entry;
 
 // The padding is scanned last, and only where the fields before it are good.
 fn good_call(bytes: &[u8]) -> bool
-    requires { ⌜ length (now bytes) ≡ 544 ⌝ }
+    requires { ⌜ length (now bytes) ≡ recordSize ⌝ }
     ensures { λ r. ⌜ r ≡ goodCall (now (bytes .entry)) ⌝ }
 {
     let host = numbers::byte(bytes, 1);
@@ -26,7 +26,7 @@ fn good_call(bytes: &[u8]) -> bool
 }
 
 fn decode_call(bytes: &[u8]) -> Entry
-    requires { ⌜ length (now bytes) ≡ 544 ⌝ }
+    requires { ⌜ length (now bytes) ≡ recordSize ⌝ }
     ensures { λ r. ⌜ r ≡ (if goodCall (now (bytes .entry)) then callEntry (now (bytes .entry)) else Bad) ⌝ }
 {
     let good = good_call(bytes);
@@ -43,7 +43,7 @@ fn decode_call(bytes: &[u8]) -> Entry
 
 // A tick or a power cycle, if every byte after the kind is zero.
 fn decode_bare(bytes: &[u8], entry: Entry) -> Entry
-    requires { ⌜ length (now bytes) ≡ 544 ⌝ }
+    requires { ⌜ length (now bytes) ≡ recordSize ⌝ }
     ensures { λ r. ⌜ r ≡ (if bare (now (bytes .entry)) then entry else Bad) ⌝ }
 {
     let zero = base::all_zero(&bytes[1..]);

@@ -2,6 +2,8 @@
 ghost use mathlib.Core.Path.{_≡_};
 ghost use Prim.Native.Nat.{_+_, _≤_};
 ghost use lib.ListN.{length};
+ghost use Rattle.rules.specs.Numbers.{answerRoom};
+ghost use Rattle.text.specs.Wrote.{lineRoom};
 ghost use Rattle.rules.specs.Text.{field};
 ghost use Rattle.rules.specs.Module.{after, tickResult, powerResult};
 ghost use Rattle.rules.specs.Log.{entryOf};
@@ -28,9 +30,9 @@ fn play_call(
     function: u64,
     request: &[u8],
 ) -> Played
-    requires { ⌜ at + 96 ≤ length (now out) ⌝ }
-    requires { ⌜ length (now answer) ≡ 64 ⌝ }
-    ensures { λ r. ⌜ r .at ≤ at + 96 ⌝ }
+    requires { ⌜ at + lineRoom ≤ length (now out) ⌝ }
+    requires { ⌜ length (now answer) ≡ answerRoom ⌝ }
+    ensures { λ r. ⌜ r .at ≤ at + lineRoom ⌝ }
     ensures { λ r. ⌜ CallReplayed number function (replayCall (moduleOf d (now (area .entry))) revision function (now (request .entry))) (now (out .entry)) at (now (out .exit)) (now (area .exit)) r ⌝ }
 {
     let outcome = module::call(d, area, revision, function, request, answer);
@@ -41,8 +43,8 @@ fn play_call(
 }
 
 fn play_tick(out: &mut [u8], at: usize, number: u64, d: Device, area: &[u8]) -> Played
-    requires { ⌜ at + 96 ≤ length (now out) ⌝ }
-    ensures { λ r. ⌜ r .at ≤ at + 96 ⌝ }
+    requires { ⌜ at + lineRoom ≤ length (now out) ⌝ }
+    ensures { λ r. ⌜ r .at ≤ at + lineRoom ⌝ }
     ensures { λ r. ⌜ Replayed (field number " tick\n") (after (tickResult d (now (area .entry)))) (now (out .entry)) at (now (out .exit)) (now (area .entry)) r ⌝ }
 {
     let outcome = module::tick(d, area);
@@ -55,8 +57,8 @@ fn play_tick(out: &mut [u8], at: usize, number: u64, d: Device, area: &[u8]) -> 
 }
 
 fn play_power(out: &mut [u8], at: usize, number: u64, d: Device, area: &[u8]) -> Played
-    requires { ⌜ at + 96 ≤ length (now out) ⌝ }
-    ensures { λ r. ⌜ r .at ≤ at + 96 ⌝ }
+    requires { ⌜ at + lineRoom ≤ length (now out) ⌝ }
+    ensures { λ r. ⌜ r .at ≤ at + lineRoom ⌝ }
     ensures { λ r. ⌜ Replayed (field number " power\n") (after (powerResult d (now (area .entry)))) (now (out .entry)) at (now (out .exit)) (now (area .entry)) r ⌝ }
 {
     let outcome = module::power(d, area);
@@ -79,10 +81,10 @@ pub fn play_entry(
     entry: Entry,
     bytes: &[u8],
 ) -> Played
-    requires { ⌜ at + 96 ≤ length (now out) ⌝ }
-    requires { ⌜ length (now answer) ≡ 64 ⌝ }
+    requires { ⌜ at + lineRoom ≤ length (now out) ⌝ }
+    requires { ⌜ length (now answer) ≡ answerRoom ⌝ }
     requires { ⌜ entry ≡ entryOf (now bytes) ⌝ }
-    ensures { λ r. ⌜ r .at ≤ at + 96 ⌝ }
+    ensures { λ r. ⌜ r .at ≤ at + lineRoom ⌝ }
     ensures { λ r. ⌜ RecordReplayed number (moduleOf d (now (area .entry))) (now (bytes .entry)) (now (out .entry)) at (now (out .exit)) (now (area .exit)) r ⌝ }
 {
     match entry {
@@ -119,9 +121,9 @@ pub fn play_record(
     answer: &mut [u8],
     bytes: &[u8],
 ) -> Played
-    requires { ⌜ at + 96 ≤ length (now out) ⌝ }
-    requires { ⌜ length (now answer) ≡ 64 ⌝ }
-    ensures { λ r. ⌜ r .at ≤ at + 96 ⌝ }
+    requires { ⌜ at + lineRoom ≤ length (now out) ⌝ }
+    requires { ⌜ length (now answer) ≡ answerRoom ⌝ }
+    ensures { λ r. ⌜ r .at ≤ at + lineRoom ⌝ }
     ensures { λ r. ⌜ RecordReplayed number (moduleOf d (now (area .entry))) (now (bytes .entry)) (now (out .entry)) at (now (out .exit)) (now (area .exit)) r ⌝ }
 {
     let entry = log::decode(bytes);

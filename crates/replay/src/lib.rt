@@ -2,6 +2,8 @@
 ghost use mathlib.Core.Path.{_≡_};
 ghost use Prim.Native.Nat.{_+_, _*_, _^_, _≤_, _<_};
 ghost use lib.ListN.{length};
+ghost use Rattle.rules.specs.Numbers.{answerRoom};
+ghost use Rattle.text.specs.Wrote.{lineRoom};
 ghost use Rattle.rules.specs.Log.{recordsIn};
 ghost use Rattle.play.specs.Replayed.{moduleOf};
 ghost use Rattle.replay.specs.Places.{PlaceReplayed, PartReplayed};
@@ -20,9 +22,9 @@ pub fn play_at(
     log: &[u8],
     place: usize,
 ) -> Played
-    requires { ⌜ at + 96 ≤ length (now out) ⌝ }
-    requires { ⌜ length (now answer) ≡ 64 ⌝ }
-    ensures { λ r. ⌜ r .at ≤ at + 96 ⌝ }
+    requires { ⌜ at + lineRoom ≤ length (now out) ⌝ }
+    requires { ⌜ length (now answer) ≡ answerRoom ⌝ }
+    ensures { λ r. ⌜ r .at ≤ at + lineRoom ⌝ }
     ensures { λ r. ⌜ PlaceReplayed number (moduleOf d (now (area .entry))) (now (log .entry)) place (now (out .entry)) at (now (out .exit)) (now (area .exit)) r ⌝ }
 {
     let stood = reader::read_at(log, place);
@@ -53,10 +55,10 @@ pub fn put_lines(
     area: &mut [u8],
     answer: &mut [u8],
 ) -> Played
-    requires { ⌜ recordsIn (now part) * 96 ≤ length (now out) ⌝ }
+    requires { ⌜ recordsIn (now part) * lineRoom ≤ length (now out) ⌝ }
     requires { ⌜ number + recordsIn (now part) < 2 ^ 64 ⌝ }
-    requires { ⌜ length (now answer) ≡ 64 ⌝ }
-    ensures { λ r. ⌜ r .at ≤ recordsIn (now (part .entry)) * 96 ⌝ }
+    requires { ⌜ length (now answer) ≡ answerRoom ⌝ }
+    ensures { λ r. ⌜ r .at ≤ recordsIn (now (part .entry)) * lineRoom ⌝ }
     ensures { λ r. ⌜ PartReplayed number (moduleOf d (now (area .entry))) (now (part .entry)) (now (out .entry)) (now (out .exit)) (now (area .exit)) r ⌝ }
 {
     let count = part.len() / 544;

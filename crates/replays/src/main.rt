@@ -3,6 +3,7 @@
 ghost use Prim.Native.Nat.{_+_, _/_, _≤_};
 ghost use mathlib.Core.Path.{_≡_};
 ghost use lib.ListN.{length, take};
+ghost use Rattle.rules.specs.Numbers.{answerRoom};
 ghost use Rattle.play.specs.Replayed.{moduleOf};
 ghost use Rattle.replay.specs.Places.{PartReplayed, partPlayed};
 use files::Filled;
@@ -47,7 +48,7 @@ fn put_part(
 ) -> Played
     requires { ⌜ (have ≤ 65280) × (have ≤ length (now buf)) ⌝ }
     requires { ⌜ number ≤ 9000000000000000000 ⌝ }
-    requires { ⌜ (12288 ≤ length (now out)) × (length (now answer) ≡ 64) ⌝ }
+    requires { ⌜ (12288 ≤ length (now out)) × (length (now answer) ≡ answerRoom) ⌝ }
     ensures { λ r. ⌜ r .at ≤ 12288 ⌝ }
     ensures { λ r. ⌜ PartReplayed number (moduleOf d (now (area .entry))) (take have (now (buf .entry))) (now (out .entry)) (now (out .exit)) (now (area .exit)) r ⌝ }
 {

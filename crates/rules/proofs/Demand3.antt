@@ -1,15 +1,15 @@
 -- Demand 3: the theorem, and what of it holds from every sound module.
 -- Assumes nothing.
-use mathlib.Core.Path.{_≡_, refl, sym, _∙_, subst}
+use mathlib.Core.Path.{_≡_, refl, sym, _∙_, ap, subst}
 use mathlib.Core.List.{[]}
 use Rattle.rules.specs.Module.{Module, Event, tick}
 use Rattle.rules.specs.History.{historyOf, end, All}
 use Rattle.rules.specs.Transfers.{machine, History, none}
-use Rattle.rules.specs.Demand3.{freshWith, struck, StrikeOut, EachFromOneHost, Stages, Due, StagedExactly, Demand3, DemandOfWhatRemains, Sound, FromAnywhere, WithAnyHosts, DemandFromAnywhere, DemandWithAnyHosts}
+use Rattle.rules.specs.Demand3.{freshWith, struck, StrikeOut, EachFromOneHost, Stages, Due, StagedExactly, StagedAsSent, Demand3, DemandOfWhatRemains, Sound, FromAnywhere, WithAnyHosts, DemandFromAnywhere, DemandWithAnyHosts}
 use Rattle.rules.proofs.Joining.{plays-log}
 use Rattle.rules.proofs.Struck.{strike-out}
-use Rattle.rules.proofs.Parts.{storeOf, inner}
-use Rattle.rules.proofs.Possible.{sound-fresh, sound-end}
+use Rattle.rules.proofs.Parts.{storeOf, storeTick, inner}
+use Rattle.rules.proofs.Possible.{sound-fresh, sound-through, sound-end}
 use Rattle.rules.proofs.Gate.{Remains, Inward, inwards}
 use Rattle.rules.proofs.Moved.{move}
 use Rattle.rules.proofs.Unbroken.{all-moved}
@@ -18,7 +18,7 @@ use Rattle.rules.proofs.Order.{orders}
 use Rattle.rules.proofs.Turn.{one-host, hosts-fresh}
 use Rattle.rules.proofs.Pieces.{received, own-pieces}
 use Rattle.rules.proofs.Stage.{Ripe, stages-ripe, ripe-stages, staged-once}
-use Rattle.rules.proofs.Due.{ripe-due, due-ripe}
+use Rattle.rules.proofs.Due.{bytesOf, ripe-due, due-ripe, due-sent}
 use Rattle.rules.proofs.Waits.{one-waits}
 use Rattle.rules.proofs.Again.{never-again}
 
@@ -35,7 +35,7 @@ from-anywhere m w events =
 
 -- From a fresh module, and with hosts that use any context.
 pub with-any-hosts : DemandWithAnyHosts
-with-any-hosts area size events = record { one-after-another = orders none m r w refl (into .plays) k; received = λ f. received m r f w refl (st .plays) k; staged-exactly = staging }
+with-any-hosts area size events = record { one-after-another = orders none m r w refl (into .plays) k; received = λ f. received m r f w refl (st .plays) k; staged-exactly = staging; staged-as-sent = as-sent }
   where
     m : Module
     m = freshWith area
@@ -75,6 +75,13 @@ with-any-hosts area size events = record { one-after-another = orders none m r w
             (ripe-stages (end machine m h) version (sound-end m h w)
             (subst (λ (z : Module). Ripe (storeOf z) version) same-end (due-ripe m r version w refl (into .plays) k (g .1))))
 
+    as-sent : StagedAsSent m h
+    as-sent version d =
+        let z : Module = end machine m h in
+        ap (λ (u : Module). bytesOf (storeOf u)) (sound-through z tick (sound-end m h w) refl .nexts-as)
+        ∙ ap (λ (u : Module). bytesOf (storeTick (storeOf u))) (sym same-end)
+        ∙ due-sent m r version w refl (into .plays) k d
+
 -- From a fresh module, where what remains is honest.
 pub of-what-remains : DemandOfWhatRemains
 of-what-remains area size events honest =
@@ -86,6 +93,7 @@ of-what-remains area size events honest =
       move = anywhere .move;
       all-moved = anywhere .all-moved;
       staged-exactly = any-hosts .staged-exactly;
+      staged-as-sent = any-hosts .staged-as-sent;
       staged-once = anywhere .staged-once;
       one-waits = anywhere .one-waits;
       never-again = anywhere .never-again;

@@ -14,8 +14,8 @@ use Rattle.rules.specs.Image.{imageOf}
 use Rattle.rules.specs.Transfer.{GetFwInfo, Start, Send, Finish, Query, receivedBytes}
 use Rattle.rules.specs.Module.{Module}
 use Rattle.rules.specs.History.{Plays, end, All}
-use Rattle.rules.specs.Transfers.{Answer, Exchange, History, Kind, Finished, Ticked, Other, kindOf, Open, none, by, bytesSoFar, InOpen, InOrder, AllInOrder}
-use Rattle.rules.specs.Sends.{FinishedIn, tickCount, ticksIn, powerCount, powerCycles}
+use Rattle.rules.specs.Transfers.{Answer, Exchange, History, Kind, Finished, Ticked, Other, kindOf, Open, none, by, bytesSoFar, ContextIs, InOrder, AllInOrder}
+use Rattle.rules.specs.Sends.{ownSends, pieces, FinishedIn, tickCount, ticksIn, powerCount, powerCycles}
 use Rattle.rules.specs.Demand3.{remains, Sound, Due}
 use Rattle.rules.specs.declared.Phase.{Phase}
 use Rattle.rules.specs.declared.Phase.the-variants.{Idle, Verifying}
@@ -31,7 +31,7 @@ use Rattle.rules.proofs.Order.{openAtEnd, Fits, goes, orders, chosen, b
 use Rattle.rules.proofs.Pieces.{open-join, orders-left, AtFinish, at-finish, Opened, opened}
 use Rattle.rules.proofs.Stage.{Ripe, quiet, busy, no-tick}
 
-abbrev bytesOf : Store → List ℕ
+abbrev pub bytesOf : Store → List ℕ
 bytesOf s = receivedBytes (s .transfer) (s .area)
 
 -- While it verifies the ticks are counted, and the bytes stay
@@ -84,7 +84,7 @@ record Waiting (h : History) (s : Store) : Type 0 where
   context : ℕ
   whole : h ≡ before ++ (finish ∷ since)
   finishes : kindOf finish ≡ Finished host context 0
-  of-open : InOpen (openAtEnd none before) context
+  of-open : ContextIs (openAtEnd none before) context
   bytes : bytesOf s ≡ bytesSoFar (openAtEnd none before)
   count : ticksIn since + s .transfer .ticks ≡ verification
   some : 1 ≤ s .transfer .ticks
@@ -136,7 +136,7 @@ watch-tick h s x k w (counting q l e) p =
 watch-tick h s x k w (good version q l i e) p = never (sym (ap (λ (z : Phase). z is Verifying) p) ∙ ap (λ (t : Transfer). t .phase is Verifying) e)
 watch-tick h s x k w (bad q l i e) p = never (sym (ap (λ (z : Phase). z is Verifying) p) ∙ ap (λ (t : Transfer). t .phase is Verifying) e)
 
-watch-finish : (h : History) (s : Store) (x : Exchange) (host context flag : ℕ) → kindOf x ≡ Finished host context flag → InOpen (openAtEnd none h) context → bytesOf s ≡ bytesSoFar (openAtEnd none h)
+watch-finish : (h : History) (s : Store) (x : Exchange) (host context flag : ℕ) → kindOf x ≡ Finished host context flag → ContextIs (openAtEnd none h) context → bytesOf s ≡ bytesSoFar (openAtEnd none h)
     → Watch (h ++ (x ∷ [])) (storeChange s (Finish flag context))
 unfolding Watch
 watch-finish h s x host context flag k o b = go (flag =? 0) refl
@@ -201,7 +201,7 @@ watch before m (x ∷ h) s o w p k =
 due-from : (h : History) (s : Store) (version : ℕ) → AllInOrder none h → Waiting h s → Ripe s version → Due h version
 due-from h s version t w r = go (openAtEnd none (w .before)) refl (w .of-open) (w .bytes)
   where
-    go : (o : Open) → openAtEnd none (w .before) ≡ o → InOpen o (w .context) → bytesOf s ≡ bytesSoFar o → Due h version
+    go : (o : Open) → openAtEnd none (w .before) ≡ o → ContextIs o (w .context) → bytesOf s ≡ bytesSoFar o → Due h version
     go none e of b = absurd of
     go (by host c bytes) e of b =
         let p : Opened (w .before) host c bytes = opened (w .before) host c bytes (orders-left none (w .before) (w .finish ∷ w .since) (subst (λ (z : History). AllInOrder none z) (w .whole) t)) e in
@@ -234,11 +234,16 @@ ripe-due m h version s o n p k r =
     due-from h (storeOf (end inner m h)) version (orders none m h s o p k)
     (watch [] m h s o (λ q. never (sym (ap (λ (z : Phase). z is Verifying) q) ∙ n)) p k (r .at)) r
 
--- Back: what is due is ripe
-pub due-ripe : (m : Module) (h : History) (version : ℕ) → Sound m → Fits none (storeOf m) → Plays inner m h → All Remains h → Due h version → Ripe (storeOf (end inner m h)) version
-due-ripe m h version s o p k d =
-    subst (λ (z : Module). Ripe (storeOf z) version) (sym (ap (end inner m) whole ∙ end-join inner m pre last))
-    (record { at = hold .at; last = omega (arith, hold .count, d .seven-ticks, eight); good-image = ap imageOf (hold .bytes ∙ ap bytesOf e ∙ at .bytes-are) ∙ d .good })
+-- where a staging is due: the last tick is left, and the received bytes are the transfer's own pieces
+record Waits (h : History) (version : ℕ) (d : Due h version) (s : Store) : Type 0 where
+  at : s .transfer .phase ≡ Verifying
+  last : s .transfer .ticks ≤ 1
+  own : bytesOf s ≡ pieces (ownSends (d .transfer .context) (d .transfer .between))
+
+due-waits : (m : Module) (h : History) (version : ℕ) → Sound m → Fits none (storeOf m) → Plays inner m h → All Remains h → (d : Due h version) → Waits h version d (storeOf (end inner m h))
+due-waits m h version s o p k d =
+    subst (λ (z : Module). Waits h version d (storeOf z)) (sym (ap (end inner m) whole ∙ end-join inner m pre last))
+    (record { at = hold .at; last = omega (arith, hold .count, d .seven-ticks, eight); own = hold .bytes ∙ ap bytesOf e ∙ at .bytes-are })
   where
     f : FinishedIn h
     f = d .transfer
@@ -269,3 +274,23 @@ due-ripe m h version s o p k d =
 
     hold : Held (storeOf (inner .next v (f .finish .event))) (storeOf (end inner v last)) (ticksIn (f .since))
     hold = held (inner .next v (f .finish .event)) (f .since) (ap (λ (z : Store). z .transfer .phase) e) (d .no-power-cycle) (omega (arith, d .seven-ticks, eight))
+
+-- Back: what is due is ripe
+pub due-ripe : (m : Module) (h : History) (version : ℕ) → Sound m → Fits none (storeOf m) → Plays inner m h → All Remains h → Due h version → Ripe (storeOf (end inner m h)) version
+due-ripe m h version s o p k d =
+    let w = due-waits m h version s o p k d in
+    record { at = w .at; last = w .last; good-image = ap imageOf (w .own) ∙ d .good }
+
+-- a tick leaves the received bytes
+tick-bytes : (s : Store) → Tick (s .transfer) (s .area) → bytesOf (storeTick s) ≡ bytesOf s
+tick-bytes s (calm n e) = ap (λ (t : Transfer). receivedBytes t (s .area)) e
+tick-bytes s (counting q l e) = ap (λ (t : Transfer). receivedBytes t (s .area)) e
+tick-bytes s (good version q l i e) = ap (λ (t : Transfer). receivedBytes t (s .area)) e
+tick-bytes s (bad q l i e) = ap (λ (t : Transfer). receivedBytes t (s .area)) e
+
+-- What is staged is what was sent
+pub due-sent : (m : Module) (h : History) (version : ℕ) → Sound m → Fits none (storeOf m) → Plays inner m h → All Remains h → (d : Due h version)
+    → bytesOf (storeTick (storeOf (end inner m h))) ≡ pieces (ownSends (d .transfer .context) (d .transfer .between))
+due-sent m h version s o p k d =
+    let u : Module = end inner m h in
+    tick-bytes (storeOf u) (tick-case (u .device .transfer) (u .area)) ∙ due-waits m h version s o p k d .own

@@ -35,7 +35,5 @@ pub mod Due
 pub mod Waits
 pub mod Again
 pub mod Demand3
-pub mod Checked
-pub mod Incident
 -- Demand 1.
 pub mod Demand1

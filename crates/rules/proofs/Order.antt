@@ -15,7 +15,7 @@ use Rattle.rules.specs.Refusals.{refused?}
 use Rattle.rules.specs.Transfer.{TransferCall, GetFwInfo, Start, Send, Finish, Query, receivedBytes}
 use Rattle.rules.specs.Module.{Module}
 use Rattle.rules.specs.History.{Plays, end, All}
-use Rattle.rules.specs.Transfers.{Answer, Exchange, History, Kind, Started, Sent, Finished, Ticked, Powered, Other, kindOf, Open, none, by, bytesSoFar, withPiece, openAfter, InOpen, InOrder, AllInOrder}
+use Rattle.rules.specs.Transfers.{Answer, Exchange, History, Kind, Started, Sent, Finished, Ticked, Powered, Other, kindOf, Open, none, by, bytesSoFar, withPiece, openAfter, ContextIs, InOrder, AllInOrder}
 use Rattle.rules.specs.Demand3.{AnsweredTo, remains, Sound}
 use Rattle.rules.specs.declared.Phase.{Phase}
 use Rattle.rules.specs.declared.Phase.the-variants.{Receiving, Verifying}
@@ -75,7 +75,7 @@ shut : (o : Open) (s : Store) → Fits o s → (s .transfer .phase is Receiving)
 shut none s f n = refl
 shut (by host context bytes) s f n = never (sym (ap (λ (p : Phase). p is Receiving) (f .at)) ∙ n)
 
-in-open : (o : Open) (s : Store) (context : ℕ) → Fits o s → s .transfer .phase ≡ Receiving → context ≡ current (s .transfer) → InOpen o context
+in-open : (o : Open) (s : Store) (context : ℕ) → Fits o s → s .transfer .phase ≡ Receiving → context ≡ current (s .transfer) → ContextIs o context
 in-open none s context f p g = never (sym (ap (λ (q : Phase). q is Receiving) p) ∙ f)
 in-open (by host c bytes) s context f p g = g ∙ f .ctx
 

@@ -13,7 +13,7 @@ use Rattle.rules.specs.Image.{imageOf}
 use Rattle.rules.specs.Refusals.{refused?}
 use Rattle.rules.specs.Table.{rowOf}
 use Rattle.rules.specs.Transfer.{TransferCall, GetFwInfo, Start, Send, Finish, Query, receivedBytes}
-use Rattle.rules.specs.Module.{Call, OnMask, OnThresholds, OnTransfer, OnSecurity, OnNothing, Module, Event, call, tick, power, callIn}
+use Rattle.rules.specs.Module.{Call, OnMask, OnThresholds, OnTransfer, OnSecurity, OnNothing, Module, Event, call, tick, power, outOf, callIn}
 use Rattle.rules.specs.History.{end}
 use Rattle.rules.specs.Transfers.{Answer, machine, Exchange, History, Kind, Started, Sent, Finished, Other, callKind, kindOf}
 use Rattle.rules.specs.Sends.{tickCount, powerCount, powerCycles}
@@ -111,6 +111,14 @@ staged-as : (m : Module) (version : ℕ) → stagedWith version m ≡ true → S
 staged-as m version e =
     let q = and-true (m .device .transfer .phase is Staged) (m .device .transfer .staged =? version) e in
     record { phase = is-phase (m .device .transfer .phase) Staged (q .0); version-is = eqb-true (m .device .transfer .staged) version (q .1) }
+
+-- "From Staged the staged version becomes the running one."
+pub taken-over : (m : Module) (version : ℕ) → Sound m → stagedWith version m ≡ true → outOf m power .device .transfer .running ≡ version
+taken-over m version w e =
+    let q = staged-as m version e in
+    ap (λ (u : Module). u .device .transfer .running) (sound-through m power w refl .nexts-as)
+    ∙ ap (λ (p : Phase). if p is Staged then m .device .transfer .staged else m .device .transfer .running) (q .phase)
+    ∙ q .version-is
 
 -- no event stages another version over a staged one
 staged-over : (m : Module) (f : Act) (version : ℕ) → m .device .transfer .phase ≡ Staged → stagedWith version m ≡ false → stagedWith version (nexts m f) ≡ true → ⊥

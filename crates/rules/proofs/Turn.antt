@@ -7,7 +7,7 @@ use mathlib.Core.List.{List, [], _∷_}
 use native.Mathlib.Omega.{arith}
 use Rattle.rules.specs.Module.{Module}
 use Rattle.rules.specs.History.{Plays, All}
-use Rattle.rules.specs.Transfers.{Exchange, History, Kind, Started, Sent, Finished, Ticked, Powered, Other, kindOf, Open, none, by, withPiece, openAfter, InOpen, InOrder, StarterIs, ByStarter, AllByStarter}
+use Rattle.rules.specs.Transfers.{Exchange, History, Kind, Started, Sent, Finished, Ticked, Powered, Other, kindOf, Open, none, by, withPiece, openAfter, ContextIs, InOrder, StarterIs, ByStarter, AllByStarter}
 use Rattle.rules.specs.Demand3.{AnsweredTo, HonestAfter, Sound}
 use Rattle.rules.proofs.Parts.{Store, storeOf, act, inner}
 use Rattle.rules.proofs.Possible.{sound-act}
@@ -61,7 +61,7 @@ hosts-start past x o m host context e b w = record { sole = sole; below = below 
     sole j (inr r) = absurd (omega (arith, w .below j context r, b .next-number))
 
 -- a host that was answered the open transfer's context is its starter
-starter-is : (past : History) (o : Open) (host context : ℕ) → Sole past o → InOpen o context → AnsweredTo host context past → StarterIs o host
+starter-is : (past : History) (o : Open) (host context : ℕ) → Sole past o → ContextIs o context → AnsweredTo host context past → StarterIs o host
 starter-is past none host context s i m = absurd i
 starter-is past (by starter c bytes) host context s i m = s host (subst (λ (n : ℕ). AnsweredTo host n past) i m)
 

@@ -76,9 +76,9 @@ set-passphrase new = ask 20 (zeros 32 ++ new)
 abbrev disable : List ℕ → Event
 disable current = ask 21 current
 
--- an answer that is a status alone, its bytes written out, so that `statusBytes` is held to them
+-- an answer that is a status alone, its bytes written out, so that `statusBytes` and the order of bytes are held to them
 abbrev status : ℕ → List ℕ
-status n = le 2 n ++ le 2 0
+status n = n ∷ 0 ∷ 0 ∷ 0 ∷ []
 
 -- the answer of the first Start
 abbrev started : List ℕ

@@ -1,7 +1,8 @@
 -- Demand 1. "Any call, with any bytes and any device record, gets an answer and ends. A call we can't serve is refused by its number in document 01. A
 -- refused call leaves the device record and the staging area unchanged, but for one thing: a wrong passphrase adds one to the attempt count."
 -- That every call ends is proved of the code, function by function. Which number a call gets, `Module.callChecks` says, row by row in the page's order, and
--- by definition nothing else decides (`judged`). What is proved here: no other number is given, and what a refusal leaves and writes.
+-- by definition nothing else decides (`judged`). What is proved here: no other number is given; what a refusal leaves and writes; what an accepted
+-- call writes; and that every event keeps a possible record possible.
 -- Assumes nothing.
 use mathlib.Core.Path.{_≡_}
 use mathlib.Core.Bool.{Bool, true, false, _&&_, _||_}

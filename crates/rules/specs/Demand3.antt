@@ -131,6 +131,13 @@ pub record Due (h : History) (version : ℕ) : Type 0 where
 abbrev pub StagedExactly : Module → History → Type 0
 StagedExactly m h = (event : Event) (version : ℕ) → Stages (end machine m h) event version ↔ ((event ≡ tick) × Due (struck h) version)
 
+-- What is staged is what was sent: after the eighth tick the received bytes of the area are still the pieces of the transfer's own Sends, joined in order.
+abbrev pub StagedAsSent : Module → History → Type 0
+StagedAsSent m h =
+    (version : ℕ) (due : Due (struck h) version)
+    → receivedBytes (outOf (end machine m h) tick .device .transfer) (outOf (end machine m h) tick .area)
+    ≡ pieces (ownSends (due .transfer .context) (due .transfer .between))
+
 -- "An image is staged once": between an exchange that stages and a later event that stages there is a power cycle. That one Finish never stages twice is in
 -- `StagedExactly`: what stages is the eighth tick after it, before any power cycle.
 abbrev pub StagedOnce : Module → History → Type 0
@@ -141,8 +148,8 @@ StagedOnce m h =
     → Stages (end machine m h) event second
     → 1 ≤ powerCycles between
 
--- One image waits at a time, so that no two accepted Finishes share a staging: between an accepted, non-abort Finish and a later Start there are eight ticks
--- or a power cycle.
+-- One image waits at a time: between an accepted, non-abort Finish and a later Start there are eight ticks or a power cycle. As each Finish has a Start of its
+-- own (`OneAfterAnother`), no two Finishes share a staging.
 abbrev pub OneWaits : History → Type 0
 OneWaits h =
     (before between since : History) (x y : Exchange) (host other finished started : ℕ)
@@ -169,6 +176,7 @@ pub record Demand3Of (m : Module) (h : History) : Type 0 where
   pub move : Move m (struck h)
   pub all-moved : AllMoved m (struck h)
   pub staged-exactly : StagedExactly m h
+  pub staged-as-sent : StagedAsSent m h
   pub staged-once : StagedOnce m h
   pub one-waits : OneWaits (struck h)
   pub never-again : NeverAgain (struck h)
@@ -206,12 +214,13 @@ pub record FromAnywhere (m : Module) (h : History) : Type 0 where
 abbrev pub DemandFromAnywhere : Type 0
 DemandFromAnywhere = (m : Module) → Sound m → (events : List Event) → FromAnywhere m (historyOf machine m events)
 
--- What `FromAnywhere` does not say yet, from a fresh module, whatever contexts the hosts use. Only "each from one host" is left out: it alone needs honest
--- hosts.
+-- What `FromAnywhere` does not say yet, from a fresh module, whatever contexts the hosts use. Only "each from one host" is left out, and with it the hosts
+-- in `OwnPieces`: they alone need honest hosts.
 pub record WithAnyHosts (m : Module) (h : History) : Type 0 where
   pub one-after-another : OneAfterAnother (struck h)
   pub received : (f : FinishedIn (struck h)) → Received m f
   pub staged-exactly : StagedExactly m h
+  pub staged-as-sent : StagedAsSent m h
 
 abbrev pub DemandWithAnyHosts : Type 0
 DemandWithAnyHosts =

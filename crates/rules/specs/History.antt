@@ -32,7 +32,8 @@ module _ {S E A : Type 0} (M : Machine S E A) where
   end s [] = s
   end s (x ∷ h) = end (M .next s (x .event)) h
 
-  -- "no answer or end changes": from the state s every event of k is answered just as k says, and k comes to the same end as h
+  -- "no answer or end changes": from the state s every event of k is answered just as k says, and k comes to the same end as h. The answers that k says are
+  -- h's, for k is made of h's own exchanges (`struck`, `moved`, `rearranged`).
   pub record Same (s : S) (h k : List (ExchangeOf E A)) : Type 0 where
     pub plays : Plays s k
     pub ends : end s k ≡ end s h

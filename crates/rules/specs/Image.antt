@@ -10,12 +10,12 @@ use Rattle.rules.specs.declared.Image.{Image}
 use Rattle.rules.specs.declared.Image.the-variants.{Good, Bad}
 
 -- "records of 128 bytes"
-abbrev pub imageRecord : ℕ
-imageRecord = 128
+abbrev pub imageRecordSize : ℕ
+imageRecordSize = 128
 
--- "n": how many records the bytes make
+-- "n": how many whole records the bytes make
 abbrev pub recordsOf : List ℕ → ℕ
-recordsOf bytes = length bytes / imageRecord
+recordsOf bytes = length bytes / imageRecordSize
 
 -- the sum of the first so many words, as an exact number
 unfoldable pub sumOfWords : ℕ → List ℕ → ℕ
@@ -35,11 +35,11 @@ goodRecord i n version bytes =
 unfoldable pub goodRecords : (records i n version : ℕ) → List ℕ → Bool
 goodRecords zero i n version bytes = true
 goodRecords (suc records) i n version bytes =
-    goodRecord i n version (take imageRecord bytes) && goodRecords records (i + 1) n version (drop imageRecord bytes)
+    goodRecord i n version (take imageRecordSize bytes) && goodRecords records (i + 1) n version (drop imageRecordSize bytes)
 
 -- "received is n times 128, n from 1 to 128."
 abbrev pub goodSize : List ℕ → Bool
-goodSize bytes = (length bytes =? recordsOf bytes * imageRecord) && (1 ≤? recordsOf bytes) && (recordsOf bytes ≤? 128)
+goodSize bytes = (length bytes =? recordsOf bytes * imageRecordSize) && (1 ≤? recordsOf bytes) && (recordsOf bytes ≤? 128)
 
 -- the version of record 0
 abbrev pub versionOf : List ℕ → ℕ

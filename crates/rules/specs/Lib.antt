@@ -6,17 +6,20 @@
 -- list is `[]`, empty, or `a ∷ b`, a before the list b; `++` joins two lists; `take n` and `drop n` are a list's first n and all after them. `=?`, `<?`
 -- and `≤?` compare two numbers and come out true or false; `&&` is and, `||` is or. `length s` is how many s has; `replicate n a` is a, n times; `zero` and
 -- `suc n` are 0 and n + 1; `n - m` is 0 where m is the greater; `/` and `%` divide, without and for the remainder; `^` is a power.
--- Underscores in a name show where its parts go: `_with-ticks_` is written `t with-ticks 0`. A definition of several lines goes by cases: the line whose left
--- side fits is the one that counts. `f x .g` is the field g of `f x`. `record { f = a; g = b }` is the record with these fields. `0x` begins a number in
--- base 16; "\n" is a line feed; `not` turns true and false round.
+-- Underscores in a name show where its parts go: `_with-ticks_` is written `t with-ticks 0`. Where several lines begin with the name, they are cases: the line
+-- whose left side fits is the one that counts. `f x .g` is the field g of `f x`; `x .f y` is the field f of x, of y. `record { f = a; g = b }` is the record
+-- with these fields. `0x` begins a number in base 16; "\n" is a line feed; `not` turns true and false round.
 -- `use` says which file a name comes from; under `declared` stand the types of src/lib.rt. `pub` lets other files use the name. `infix` lines say how tightly a
--- sign binds; from tight to loose: `^`, `*` `/` `%`, `∷`, `+` `-` `++`, `and-then`, comparisons, `&&`, `||`, `implies` `unless`, `gives`, `with-..`, `if`, `≡`.
--- What ends in `Bool` is a test; what ends in `Type 0`, its name with a capital, makes a statement. Below `module _ (M : A) where` every definition takes M
--- first.
+-- sign binds. `f x y` and `x .f` bind tightest; then, from tight to loose: `^`, `*` `/` `%`, `gets`, `∷`, `+` `-` `++`, `and-then`, comparisons and `is`, `&&`,
+-- `||`, `implies` `unless`, `gives`, `with-..`, `if`, `≡`, `⊎`, `↔`, `→`.
+-- What ends in `Bool` is a test. What ends in `Type 0`, its name with a capital, is a sort of thing, as `Event` is, or a statement, as `Honest` is. Below
+-- `module _ (M : A) where` every definition takes M first.
 -- In the line of a type `A → B → C` takes an A and a B and gives a C; `(n : A)` names what is taken, and in braces, `{h : A}`, it is left unwritten where
 -- it is used; `A × B` is a pair of both. `data` lists the forms that a thing may have; `record` the fields that it has.
--- A statement: `≡` is "equals", `≤` and `<` as usual, `×` and, `⊎` or, `→` "if .., then ..", `↔` "exactly when", `⊥` never, `Unit` always; `(x : A) → ..`
--- is "for every x". A `record` of statements holds where every one of its lines does.
+-- A statement: `≡` is "equals", `≤` and `<` as usual, `×` and, `⊎` or, `→` "if .., then ..", `↔` "exactly when", `⊥` never, `Unit {0}` always; `(x : A) → ..`
+-- is "for every x". A `record` of statements holds where every one of its lines does; a line that names a thing, as `transfer : FinishedIn h` in
+-- `Due`, says that there is one. A `data` of statements, as `ByMoves`, holds where one of its forms can be made.
+-- `--` begins a remark. Words in quotes there are the page's or the demand's own; `..` stands for words left out, and what is in [ ] is added.
 -- "Assumes nothing" says that a file rests on no unproved assumption.
 pub mod Tests
 pub mod Bytes

@@ -26,7 +26,7 @@ pub data Call : Type 0 where
   OnSecurity : SecurityCall → Call
   OnNothing : Call
 
--- "bytes in, decoded": `Function′.Start` is the table's name, `Start` the call with what its request says. A request of the wrong length is decoded too, but
+-- The call that the bytes say: `Function′.Start` is the table's name, `Start` the call with what its request says. A request of the wrong length is decoded too, but
 -- its length refuses it before any check of its fields.
 abbrev pub callOf : Function → (revision : ℕ) (request : List ℕ) → Call
 callOf Function′.Mask revision request = OnMask revision

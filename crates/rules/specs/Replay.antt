@@ -38,7 +38,7 @@ played m Tick request = after (tickResult (m .device) (m .area))
 played m Power request = after (powerResult (m .device) (m .area))
 played m Bad request = m
 
--- The two numbers of a call's line. A replay never gives an R number (A33), so that its lines are never used.
+-- The two numbers of a call's line. A replay never gives an R number (A33), so that the two lines with R are never used.
 abbrev pub printedStatus : Verdict → ℕ
 printedStatus Accepted = 0
 printedStatus (Refused (R number)) = number

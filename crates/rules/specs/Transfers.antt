@@ -84,7 +84,7 @@ abbrev pub withPiece : Open → (piece : List ℕ) → Open
 withPiece none piece = none
 withPiece (by host context bytes) piece = by host context (bytes ++ piece)
 
--- which one is open afterwards: a Start opens a transfer; its Finish closes it, and so does a power cycle
+-- which one is open afterwards: a Start opens a transfer; a Finish closes it, and so does a power cycle
 abbrev pub openAfter : Open → Kind → Open
 openAfter now (Started host context) = by host context []
 openAfter now (Sent host context offset piece) = withPiece now piece
@@ -93,16 +93,16 @@ openAfter now Ticked = now
 openAfter now Powered = none
 openAfter now Other = now
 
--- the context of the open transfer
-abbrev pub InOpen : Open → (context : ℕ) → Type 0
-InOpen none context = ⊥
-InOpen (by host given bytes) context = context ≡ given
+-- the context is that of the open transfer; where none is open, never
+abbrev pub ContextIs : Open → (context : ℕ) → Type 0
+ContextIs none context = ⊥
+ContextIs (by host given bytes) context = context ≡ given
 
 -- A Start comes where no transfer is open. A Send has the open transfer's context, and goes on where the last one stopped. A Finish has its context.
 abbrev pub InOrder : Open → Kind → Type 0
 InOrder now (Started host context) = now ≡ none
-InOrder now (Sent host context offset piece) = InOpen now context × (offset ≡ length (bytesSoFar now))
-InOrder now (Finished host context flag) = InOpen now context
+InOrder now (Sent host context offset piece) = ContextIs now context × (offset ≡ length (bytesSoFar now))
+InOrder now (Finished host context flag) = ContextIs now context
 InOrder now Ticked = Unit {0}
 InOrder now Powered = Unit {0}
 InOrder now Other = Unit {0}
@@ -112,7 +112,7 @@ abbrev pub AllInOrder : Open → History → Type 0
 AllInOrder now [] = Unit {0}
 AllInOrder now (x ∷ h) = InOrder now (kindOf x) × AllInOrder (openAfter now (kindOf x)) h
 
--- the host that started the open transfer
+-- the host is the one that started the open transfer; where none is open, never
 abbrev pub StarterIs : Open → (host : ℕ) → Type 0
 StarterIs none host = ⊥
 StarterIs (by starter given bytes) host = host ≡ starter
@@ -126,7 +126,7 @@ ByStarter now Ticked = Unit {0}
 ByStarter now Powered = Unit {0}
 ByStarter now Other = Unit {0}
 
--- every Send and every Finish is
+-- every Send and every Finish of the history is
 abbrev pub AllByStarter : Open → History → Type 0
 AllByStarter now [] = Unit {0}
 AllByStarter now (x ∷ h) = ByStarter now (kindOf x) × AllByStarter (openAfter now (kindOf x)) h

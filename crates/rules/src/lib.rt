@@ -54,7 +54,7 @@ pub enum Verdict {
     Refused(Refusal),
 }
 
-// What an event is answered: the verdict, and how many bytes of the answer buffer were written.
+// The reply to an event: the verdict, and how many bytes of the answer buffer were written.
 pub struct Reply {
     pub verdict: Verdict,
     pub length: usize,

@@ -3,6 +3,7 @@ ghost use mathlib.Core.Path.{_≡_};
 ghost use mathlib.Core.List.{_++_};
 ghost use Prim.Native.Nat.{_≤_};
 ghost use lib.ListN.{length};
+ghost use Rattle.rules.specs.Numbers.{answerRoom};
 ghost use Rattle.rules.specs.Bytes.{splice};
 ghost use Rattle.rules.specs.Refusals.{statusBytes};
 ghost use Rattle.rules.specs.Security.{stateByte, securityState};
@@ -20,7 +21,7 @@ fn state_byte(s: Security) -> u8
 }
 
 pub fn put_state(s: Security, answer: &mut [u8])
-    requires { ⌜ 64 ≤ length (now answer) ⌝ }
+    requires { ⌜ answerRoom ≤ length (now answer) ⌝ }
     ensures { λ r. ⌜ now (answer .exit) ≡ splice 0 (statusBytes 0 0 ++ securityState s) (now (answer .entry)) ⌝ }
 {
     let mut bytes = [0u8; 12];

@@ -6,6 +6,10 @@ use Prim.Native.Nat.{ℕ, _+_}
 use lib.ListN.{length}
 use Rattle.rules.specs.Bytes.{splice}
 
+-- the room that each line of a replay has, which is more than the longest takes: four numbers of 20 digits, a word and the signs between them
+abbrev pub lineRoom : ℕ
+lineRoom = 96
+
 -- The text was written over old at a place: new is what came of it, next the place after it. Every other byte stays.
 pub record Wrote (old : List ℕ) (at : ℕ) (text new : List ℕ) (next : ℕ) : Type 0 where
   pub next-is : next ≡ at + length text

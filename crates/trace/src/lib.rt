@@ -3,6 +3,7 @@
 ghost use Prim.Native.Nat.{_+_, _*_, _≤_};
 ghost use mathlib.Core.Path.{_≡_};
 ghost use lib.ListN.{length};
+ghost use Rattle.rules.specs.Numbers.{answerRoom};
 use rules::Device;
 use rules::Phase;
 use rules::Security;
@@ -47,7 +48,7 @@ fn put_hex(out: &mut [u8], at: usize, bytes: &[u8], count: usize) -> usize
 
 // The line of a call: a number of at most 20 digits, a word, the answer's bytes, of which there are `size`, and the line's end.
 pub fn put_answer(out: &mut [u8], at: usize, number: u64, answer: &[u8], size: usize) -> usize
-    requires { ⌜ (at + 160 ≤ length (now out)) × (length (now answer) ≡ 64) ⌝ }
+    requires { ⌜ (at + 160 ≤ length (now out)) × (length (now answer) ≡ answerRoom) ⌝ }
     ensures { λ r. ⌜ r ≤ at + 160 ⌝ }
 {
     let named = text::put_field(out, at, number, b" call ");

@@ -2,6 +2,7 @@
 ghost use mathlib.Core.Path.{_≡_};
 ghost use Prim.Native.Nat.{_≤_};
 ghost use lib.ListN.{length};
+ghost use Rattle.rules.specs.Numbers.{areaSize};
 ghost use Rattle.rules.specs.Refusals.{verdict};
 ghost use Rattle.rules.specs.Transfer.{Start, sendOf, finishOf, startChecks, transferChecks, transferChange, transferArea};
 use rules::Phase;
@@ -22,7 +23,7 @@ pub fn start(t: Transfer) -> Transfer
 
 // The piece, which starts at byte 12 of the request, goes into the part of the area from offset to offset plus length.
 pub fn send(t: Transfer, area: &mut [u8], request: &[u8]) -> Transfer
-    requires { ⌜ length (now area) ≡ 16384 ⌝ }
+    requires { ⌜ length (now area) ≡ areaSize ⌝ }
     requires { ⌜ 12 ≤ length (now request) ⌝ }
     requires { ⌜ verdict (transferChecks t (sendOf (now request))) ≡ Verdict.Accepted ⌝ }
     ensures { λ r. ⌜ r ≡ transferChange t (sendOf (now (request .entry))) ⌝ }

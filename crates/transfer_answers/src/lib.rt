@@ -3,13 +3,14 @@ ghost use mathlib.Core.Path.{_≡_};
 ghost use mathlib.Core.List.{_++_};
 ghost use Prim.Native.Nat.{_≤_};
 ghost use lib.ListN.{length};
+ghost use Rattle.rules.specs.Numbers.{answerRoom};
 ghost use Rattle.rules.specs.Bytes.{splice};
 ghost use Rattle.rules.specs.Refusals.{statusBytes};
 ghost use Rattle.rules.specs.Transfer.{fwInfo, startAnswer, queryAnswer};
 use rules::Transfer;
 
 pub fn put_info(t: Transfer, answer: &mut [u8])
-    requires { ⌜ 64 ≤ length (now answer) ⌝ }
+    requires { ⌜ answerRoom ≤ length (now answer) ⌝ }
     ensures { λ r. ⌜ now (answer .exit) ≡ splice 0 (statusBytes 0 0 ++ fwInfo t) (now (answer .entry)) ⌝ }
 {
     let mut bytes = [0u8; 44];
@@ -25,7 +26,7 @@ pub fn put_info(t: Transfer, answer: &mut [u8])
 
 // The sum is made in 64 bits, where it is exact.
 pub fn put_started(t: Transfer, answer: &mut [u8])
-    requires { ⌜ 64 ≤ length (now answer) ⌝ }
+    requires { ⌜ answerRoom ≤ length (now answer) ⌝ }
     ensures { λ r. ⌜ now (answer .exit) ≡ splice 0 (statusBytes 0 0 ++ startAnswer t) (now (answer .entry)) ⌝ }
 {
     let mut bytes = [0u8; 8];
@@ -34,7 +35,7 @@ pub fn put_started(t: Transfer, answer: &mut [u8])
 }
 
 pub fn put_queried(t: Transfer, answer: &mut [u8])
-    requires { ⌜ 64 ≤ length (now answer) ⌝ }
+    requires { ⌜ answerRoom ≤ length (now answer) ⌝ }
     ensures { λ r. ⌜ now (answer .exit) ≡ splice 0 (statusBytes 0 0 ++ queryAnswer t) (now (answer .entry)) ⌝ }
 {
     let mut bytes = [0u8; 12];

@@ -5,20 +5,20 @@ use mathlib.Core.Path.{_≡_, refl}
 use mathlib.Core.List.{List, [], _∷_, _++_, map}
 use native.Mathlib.Omega.{arith}
 use lib.ListN.{length, take, drop, replicate, length-replicate}
 use Rattle.rules.specs.Bytes.{le, zeros, zeros?}
 use Rattle.rules.specs.Numbers.{areaSize}
 use Rattle.rules.specs.Record.{phaseNumber, possible, possibleTransfer, possibleSecurity, possibleThresholds}
 use Rattle.rules.specs.Refusals.{verdict}
 use Rattle.rules.specs.Table.{rowOf, fits?}
 use Rattle.rules.specs.Image.{sumOfWords, goodRecord, goodRecords, goodImage, imageOf}
 use Rattle.rules.specs.Module.{Module, Result, Event, call, tick, power, outOf, after, callResult, tickResult, powerResult}
 use Rattle.rules.specs.Replay.{printedStatus, printedExt}
 use Rattle.rules.specs.History.{historyOf}
 use Rattle.rules.specs.Transfers.{machine, Exchange}
 use Rattle.rules.specs.Moves.{rearranged}
 use Rattle.rules.specs.Demand3.{freshWith, Honest, struck, EachFromOneHost, Demand3Of}
-use Rattle.rules.proofs.Checked.{checked}
+use Rattle.demands.proofs.Checked.{checked}
 use Rattle.rules.proofs.Demand3.{demand-3}
 
 abbrev recorder : ℕ
 recorder = 1
