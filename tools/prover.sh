@@ -1,7 +1,7 @@
 # Sourced by .ci/run, tests/definitions and tools/built.sh: settings under which the prover takes less time. None of them changes what it says.
 
-# As many jobs as processors: more of them cost each other the cache.
-export RT_JOBS="${RT_JOBS:-$(nproc)}"
+# One job more than processors, so that none is idle while a batch ends; with more of them each costs the others the cache.
+export RT_JOBS="${RT_JOBS:-$(($(nproc) + 1))}"
 
 # The prover writes and removes some two thousand small files for each check, 50 MB in all: in memory, where there is room and programs may run.
 if [ -z "${TMPDIR-}" ] && [ -d /dev/shm ] && [ -w /dev/shm ] && ! grep -qs ' /dev/shm .*noexec' /proc/mounts &&

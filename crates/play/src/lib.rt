@@ -38,7 +38,7 @@ fn play_call(
     let outcome = module::call(d, area, revision, function, request, answer);
     let reply = outcome.reply;
     let device = outcome.device;
-    let next = lines::put_call(out, at, number, function, reply);
+    let next = call_line::put_call(out, at, number, function, reply);
     Played { at: next, device }
 }
 

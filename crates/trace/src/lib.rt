@@ -7,8 +7,6 @@ ghost use Rattle.rules.specs.Numbers.{answerRoom};
 use rules::Device;
 use rules::Phase;
 use rules::Security;
-use rules::Thresholds;
-use rules::Transfer;
 
 // The hex digit of the lower four bits.
 fn hex_digit(n: u8) -> u8 {
@@ -67,13 +65,76 @@ fn put_tail(out: &mut [u8], at: usize, number: u64, short: bool) -> usize
     text::put_field(out, at, number, b" short\n")
 }
 
-// A field of the record: its name and its number.
-fn put_number(out: &mut [u8], at: usize, name: &[u8], n: u64) -> usize
-    requires { ⌜ (at + 40 ≤ length (now out)) × (length (now name) ≤ 16) ⌝ }
+// The line of the phase.
+fn put_phase(out: &mut [u8], at: usize, phase: Phase) -> usize
+    requires { ⌜ at + 40 ≤ length (now out) ⌝ }
     ensures { λ r. ⌜ r ≤ at + 40 ⌝ }
 {
-    let named = text::put(out, at, name);
-    text::put_field(out, named, n, b"\n")
+    let named = text::put(out, at, b"phase ");
+    let end = text::put_phase(out, named, phase);
+    text::put(out, end, b"\n")
+}
+
+// The numbers of a device record, in the order in which `put_end` names them.
+fn numbers(d: Device) -> [u64; 13] {
+    let transfer = d.transfer;
+    let thresholds = d.thresholds;
+    let security = d.security;
+    [
+        transfer.contexts as u64,
+        transfer.received as u64,
+        transfer.ticks as u64,
+        transfer.running,
+        transfer.staged,
+        thresholds.enable as u64,
+        thresholds.spare as u64,
+        thresholds.media as u64,
+        thresholds.controller as u64,
+        security.enabled as u64,
+        security.locked as u64,
+        security.frozen as u64,
+        security.attempts as u64,
+    ]
+}
+
+// The first of the names, with the space after it, which is at most 16 bytes: how many there were.
+fn put_name(out: &mut [u8], at: usize, names: &[u8]) -> usize
+    requires { ⌜ at + 16 ≤ length (now out) ⌝ }
+    ensures { λ r. ⌜ r ≤ 16 ⌝ }
+{
+    let mut n = 0;
+    while n < 16 {
+        if names.len() <= n {
+            return n;
+        }
+        let byte = names[n];
+        out[at + n] = byte;
+        n += 1;
+        if byte == 32 {
+            return n;
+        }
+    }
+    n
+}
+
+// The line of each number, with its name.
+fn put_numbers(out: &mut [u8], at: usize, names: &[u8], numbers: &[u64]) -> usize
+    requires { ⌜ (at + 40 * length (now numbers) ≤ length (now out)) × (length (now numbers) ≤ 100) ⌝ }
+    ensures { λ r. ⌜ r ≤ at + 40 * length (now (numbers .entry)) ⌝ }
+{
+    let mut to = at;
+    let mut from = 0;
+    let mut i = 0;
+    while i < numbers.len() {
+        if names.len() < from {
+            return to;
+        }
+        let n = put_name(out, to, &names[from..]);
+        to = text::put_field(out, to + n, numbers[i], b"\n");
+        from += n;
+        i += 1;
+    }
+    to
 }
 
 // A field that is bytes: its name, and two digits for each byte.
@@ -86,71 +147,37 @@ fn put_bytes(out: &mut [u8], at: usize, name: &[u8], bytes: &[u8]) -> usize
     text::put(out, end, b"\n")
 }
 
-fn bit(on: bool) -> u64 {
-    if on {
-        return 1;
-    }
-    0
-}
-
-fn put_phase(out: &mut [u8], at: usize, phase: Phase) -> usize
-    requires { ⌜ at + 40 ≤ length (now out) ⌝ }
-    ensures { λ r. ⌜ r ≤ at + 40 ⌝ }
+fn put_passphrase(out: &mut [u8], at: usize, security: Security) -> usize
+    requires { ⌜ at + 84 ≤ length (now out) ⌝ }
+    ensures { λ r. ⌜ r ≤ at + 84 ⌝ }
 {
-    let named = text::put(out, at, b"phase ");
-    let end = text::put_phase(out, named, phase);
-    text::put(out, end, b"\n")
-}
-
-fn put_versions(out: &mut [u8], at: usize, running: u64, staged: u64) -> usize
-    requires { ⌜ at + 80 ≤ length (now out) ⌝ }
-    ensures { λ r. ⌜ r ≤ at + 80 ⌝ }
-{
-    let at = put_number(out, at, b"running ", running);
-    put_number(out, at, b"staged ", staged)
-}
-
-fn put_transfer(out: &mut [u8], at: usize, transfer: Transfer) -> usize
-    requires { ⌜ at + 240 ≤ length (now out) ⌝ }
-    ensures { λ r. ⌜ r ≤ at + 240 ⌝ }
-{
-    let phase = transfer.phase;
-    let at = put_phase(out, at, phase);
-    let at = put_number(out, at, b"contexts ", transfer.contexts as u64);
-    let at = put_number(out, at, b"received ", transfer.received as u64);
-    let at = put_number(out, at, b"ticks ", transfer.ticks as u64);
-    put_versions(out, at, transfer.running, transfer.staged)
-}
-
-fn put_thresholds(out: &mut [u8], at: usize, thresholds: Thresholds) -> usize
-    requires { ⌜ at + 160 ≤ length (now out) ⌝ }
-    ensures { λ r. ⌜ r ≤ at + 160 ⌝ }
-{
-    let at = put_number(out, at, b"enable ", thresholds.enable as u64);
-    let at = put_number(out, at, b"spare ", thresholds.spare as u64);
-    let at = put_number(out, at, b"media ", thresholds.media as u64);
-    put_number(out, at, b"controller ", thresholds.controller as u64)
-}
-
-fn put_security(out: &mut [u8], at: usize, security: Security) -> usize
-    requires { ⌜ at + 260 ≤ length (now out) ⌝ }
-    ensures { λ r. ⌜ r ≤ at + 260 ⌝ }
-{
-    let at = put_number(out, at, b"enabled ", bit(security.enabled));
-    let at = put_number(out, at, b"locked ", bit(security.locked));
-    let at = put_number(out, at, b"frozen ", bit(security.frozen));
-    let at = put_number(out, at, b"attempts ", security.attempts as u64);
     put_bytes(out, at, b"passphrase ", &security.passphrase)
+}
+
+// The lines of a device record.
+fn put_device(out: &mut [u8], at: usize, d: Device) -> usize
+    requires { ⌜ at + 660 ≤ length (now out) ⌝ }
+    ensures { λ r. ⌜ r ≤ at + 660 ⌝ }
+{
+    let transfer = d.transfer;
+    let phase = transfer.phase;
+    let numbers = numbers(d);
+    let at = put_phase(out, at, phase);
+    let at = put_numbers(
+        out,
+        at,
+        b"contexts received ticks running staged enable spare media controller enabled locked frozen attempts ",
+        &numbers,
+    );
+    put_passphrase(out, at, d.security)
 }
 
 // What follows the records' lines: the tail's line, and the end state.
 pub fn put_end(out: &mut [u8], number: u64, short: bool, d: Device, area: &[u8]) -> usize
-    requires { ⌜ (2 * length (now area) + 720 ≤ length (now out)) ⌝ }
+    requires { ⌜ 2 * length (now area) + 720 ≤ length (now out) ⌝ }
     ensures { λ r. ⌜ r ≤ 2 * length (now (area .entry)) + 720 ⌝ }
 {
     let at = put_tail(out, 0, number, short);
-    let at = put_transfer(out, at, d.transfer);
-    let at = put_thresholds(out, at, d.thresholds);
-    let at = put_security(out, at, d.security);
+    let at = put_device(out, at, d);
     put_bytes(out, at, b"area ", area)
 }

@@ -1,10 +1,10 @@
--- `lines::put_call` meets its contract: the fields are written one after the other, and are those of the line that the function's index chooses.
+-- `call_line::put_call` meets its contract: the fields are written one after the other, and are those of the line that the function's index chooses.
 use native.Mathlib.Omega.{arith}
 use borrow.Author.Needs.{needs}
 use Rattle.text.proofs.Writing.{and-then, rewrote}
-use Rattle.lines.proofs.CallLine.{line-of-0, line-of-other}
-use Rattle.lines.proofs.put_call.Statement.{statement}
-use Rattle.lines.proofs.put_call.Tie as tie
+use Rattle.call_line.proofs.CallLine.{line-of-0, line-of-other}
+use Rattle.call_line.proofs.put_call.Statement.{statement}
+use Rattle.call_line.proofs.put_call.Tie as tie
 
 of-0 : tie.Need-returns
 of-0 c =
