@@ -11,7 +11,7 @@ use Rattle.rules.specs.Tests.{_=?_, _≤?_, _implies_}
 use Rattle.rules.specs.Transfer.{GetFwInfo, Start, Send, Finish, Query}
 use Rattle.rules.specs.Module.{Call, OnMask, OnThresholds, OnTransfer, OnSecurity, OnNothing, Event, call, tick, power, callIn}
 use Rattle.rules.specs.Transfers.{Exchange, History, Kind, Started, Sent, Finished, Ticked, Powered, Other, kindOf}
-use Rattle.rules.specs.Demand3.{Carries, Uses, AnsweredTo, HonestAfter, Honest}
+use Rattle.rules.specs.Hosts.{Carries, Uses, AnsweredTo, HonestAfter, Honest}
 use Rattle.rules.proofs.Choice.{and-true}
 
 -- a Start that answered the context to the host

@@ -16,7 +16,8 @@ use Rattle.rules.specs.Replay.{printedStatus, printedExt}
 use Rattle.rules.specs.History.{historyOf}
 use Rattle.rules.specs.Transfers.{machine, Exchange}
 use Rattle.rules.specs.Moves.{rearranged}
-use Rattle.rules.specs.Demand3.{freshWith, Honest, struck, EachFromOneHost, Demand3Of}
+use Rattle.rules.specs.Hosts.{Honest}
+use Rattle.rules.specs.Demand3.{freshWith, struck, EachFromOneHost, Demand3Of}
 use Rattle.demands.proofs.Checked.{checked}
 use Rattle.rules.proofs.Demand3.{demand-3}
 

@@ -15,7 +15,8 @@ use Rattle.rules.specs.Transfer.{GetFwInfo, Start, Send, Finish, Query}
 use Rattle.rules.specs.Module.{callOf, Event, call, tick, power}
 use Rattle.rules.specs.History.{All, keep}
 use Rattle.rules.specs.Transfers.{Exchange, History}
-use Rattle.rules.specs.Demand3.{Carries, Uses, AnsweredTo, HonestAfter, Honest, remains, struck}
+use Rattle.rules.specs.Hosts.{Carries, Uses, AnsweredTo, HonestAfter, Honest}
+use Rattle.rules.specs.Demand3.{remains, struck}
 use Rattle.rules.specs.declared.Verdict.{Verdict}
 use Rattle.rules.specs.declared.Verdict.the-variants.{Accepted, Refused}
 use Rattle.rules.specs.declared.Row.{Row}

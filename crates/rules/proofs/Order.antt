@@ -16,7 +16,8 @@ use Rattle.rules.specs.Transfer.{TransferCall, GetFwInfo, Start, Send, F
 use Rattle.rules.specs.Module.{Module}
 use Rattle.rules.specs.History.{Plays, end, All}
 use Rattle.rules.specs.Transfers.{Answer, Exchange, History, Kind, Started, Sent, Finished, Ticked, Powered, Other, kindOf, Open, none, by, bytesSoFar, withPiece, openAfter, ContextIs, InOrder, AllInOrder}
-use Rattle.rules.specs.Demand3.{AnsweredTo, remains, Sound}
+use Rattle.rules.specs.Hosts.{AnsweredTo}
+use Rattle.rules.specs.Demand3.{remains, Sound}
 use Rattle.rules.specs.declared.Phase.{Phase}
 use Rattle.rules.specs.declared.Phase.the-variants.{Receiving, Verifying}
 use Rattle.rules.specs.declared.Transfer.{Transfer}

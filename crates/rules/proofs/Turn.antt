@@ -8,7 +8,8 @@ use native.Mathlib.Omega.{arith}
 use Rattle.rules.specs.Module.{Module}
 use Rattle.rules.specs.History.{Plays, All}
 use Rattle.rules.specs.Transfers.{Exchange, History, Kind, Started, Sent, Finished, Ticked, Powered, Other, kindOf, Open, none, by, withPiece, openAfter, ContextIs, InOrder, StarterIs, ByStarter, AllByStarter}
-use Rattle.rules.specs.Demand3.{AnsweredTo, HonestAfter, Sound}
+use Rattle.rules.specs.Hosts.{AnsweredTo, HonestAfter}
+use Rattle.rules.specs.Demand3.{Sound}
 use Rattle.rules.proofs.Parts.{Store, storeOf, act, inner}
 use Rattle.rules.proofs.Possible.{sound-act}
 use Rattle.rules.proofs.Gate.{Remains}

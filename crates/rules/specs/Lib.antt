@@ -44,6 +44,7 @@ pub mod Demand1
 -- Demand 3, over histories.
 pub mod History
 pub mod Transfers
+pub mod Hosts
 pub mod Sends
 pub mod Moves
 pub mod Demand3

@@ -1,7 +1,7 @@
 -- `trace::put_name` meets its contract. The buffer keeps its length.
 -- Assumes nothing.
 use mathlib.Core.Path.{_≡_}
-use Prim.Native.Nat.{_+_, _*_, _≤_, _-_}
+use Prim.Native.Nat.{_≤_, _-_}
 use lib.ListN.{length}
 use borrow.Author.Needs.{needs}
 use Rattle.trace.proofs.put_name.Statement.{statement}

@@ -1,0 +1,44 @@
+-- Demand 3's words: honest hosts.
+-- Assumes nothing.
+use Prim.Native.Nat.{ℕ, _≤_}
+use mathlib.Core.Path.{_≡_}
+use mathlib.Core.Logic.{_⊎_}
+use mathlib.Core.List.{List, [], _∷_}
+use lib.ListN.{length}
+use Rattle.rules.specs.Transfer.{GetFwInfo, Start, Send, Finish, Query}
+use Rattle.rules.specs.Module.{Call, OnMask, OnThresholds, OnTransfer, OnSecurity, OnNothing, Event, call, tick, power, callIn}
+use Rattle.rules.specs.Transfers.{History, Started, kindOf}
+
+-- "each host using only context numbers that a Start answered to it". A call carries a context: a Send or a Query in bytes 0 to 3 of its request, a Finish
+-- in bytes 4 to 7. A request too short to carry it uses none.
+abbrev pub Carries : Call → (request : List ℕ) (context : ℕ) → Type 0
+Carries (OnMask revision) request context = ⊥
+Carries (OnThresholds asked) request context = ⊥
+Carries (OnTransfer GetFwInfo) request context = ⊥
+Carries (OnTransfer Start) request context = ⊥
+Carries (OnTransfer (Send c offset size piece)) request context = (4 ≤ length request) × (context ≡ c)
+Carries (OnTransfer (Finish flag c)) request context = (8 ≤ length request) × (context ≡ c)
+Carries (OnTransfer (Query c)) request context = (4 ≤ length request) × (context ≡ c)
+Carries (OnSecurity asked) request context = ⊥
+Carries OnNothing request context = ⊥
+
+-- the host uses the context in this event, whether or not the event is refused
+abbrev pub Uses : Event → (host context : ℕ) → Type 0
+Uses (call caller revision index request answer) host context = (host ≡ caller) × Carries (callIn revision index request) request context
+Uses tick host context = ⊥
+Uses power host context = ⊥
+
+-- an accepted Start of the history answered the context to the host
+abbrev pub AnsweredTo : (host context : ℕ) → History → Type 0
+AnsweredTo host context [] = ⊥
+AnsweredTo host context (x ∷ h) = (kindOf x ≡ Started host context) ⊎ AnsweredTo host context h
+
+-- every context that a host uses was answered to it earlier; `past` is what came before
+abbrev pub HonestAfter : (past h : History) → Type 0
+HonestAfter past [] = Unit {0}
+HonestAfter past (x ∷ h) =
+    ((host context : ℕ) → Uses (x .event) host context → AnsweredTo host context past) × HonestAfter (x ∷ past) h
+
+-- the hosts of the history are honest
+abbrev pub Honest : History → Type 0
+Honest h = HonestAfter [] h
