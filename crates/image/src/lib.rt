@@ -19,7 +19,8 @@ fn sum(record: &[u8]) -> u32
     sum
 }
 
-// Record number i of n, with the image's version. The words are summed past the fields' test, where the version's two are known.
+// Record number i of n, with the image's version. The fields are tested first: a record that is wrong there is not summed, and of one that is right the compiler
+// knows the version's two words.
 fn good_record(i: u16, n: u16, version: u64, record: &[u8]) -> bool
     requires { ⌜ length (now «record») ≡ 128 ⌝ }
     ensures { λ r. ⌜ r ≡ goodRecord i n version (now («record» .entry)) ⌝ }

@@ -46,7 +46,7 @@ pub fn play_at(
     }
 }
 
-// A part of a log that is whole records is played record by record, the first of which has the number given.
+// The whole records of a part of a log are played one by one, the first of which has the number given; a tail is left to the caller.
 pub fn put_lines(
     out: &mut [u8],
     part: &[u8],

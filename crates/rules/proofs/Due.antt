@@ -101,7 +101,7 @@ powers-snoc : (h : History) (x : Exchange) → powerCycles (h ++ (x ∷ [])) ≡
 powers-snoc [] x = omega arith
 powers-snoc (y ∷ h) x = omega (arith, powers-snoc h x)
 
--- one entry more, which is no power cycle
+-- one exchange more, which is no power cycle
 longer : (h : History) (s u : Store) (x : Exchange) → Waiting h s → powerCount (kindOf x) ≡ 0 → bytesOf u ≡ bytesOf s → tickCount (kindOf x) + u .transfer .ticks ≡ s .transfer .ticks → 1 ≤ u .transfer .ticks
     → Waiting (h ++ (x ∷ [])) u
 longer h s u x w n b l m =
@@ -120,7 +120,7 @@ longer h s u x w n b l m =
       no-power = omega (arith, powers-snoc (w .since) x, w .no-power);
     }
 
--- the same store, one entry more
+-- the same store, one exchange more
 same-watch : (h : History) (s u : Store) (x : Exchange) → u ≡ s → kindOf x ≡ Other → Watch h s → Watch (h ++ (x ∷ [])) u
 unfolding Watch
 same-watch h s u x e k w p =

@@ -13,7 +13,7 @@ use Rattle.rules.specs.Demand1.{bufferTooShort}
 use Rattle.rules.proofs.Facts.{Kept}
 use Rattle.rules.proofs.Possible.{sound-act, sound-through}
 
--- the entry remains; its answer buffer is long enough
+-- the exchange remains; its answer buffer is long enough
 abbrev pub Remains : Exchange → Type 0
 Remains x = Kept (x .got)
 

@@ -1,4 +1,4 @@
--- The move: between a transfer's Start and its accepted Finish stand its own Sends, and entries that may go before its Start.
+-- The move: between a transfer's Start and its accepted Finish stand its own Sends, and exchanges that may go before its Start.
 -- Assumes nothing.
 use Prim.Native.Nat.{ℕ, _+_, _≤_}
 use mathlib.Core.Path.{_≡_, refl, sym, _∙_, ap, subst}
@@ -64,7 +64,7 @@ gone-end : (c : ℕ) (m : Module) (h : History) → Gone c (storeOf m) → Gone 
 gone-end c m [] g = g
 gone-end c m (x ∷ h) g = gone-end c (inner .next m (x .event)) h (gone-next c m (act (x .event)) g)
 
--- an entry that finishes the transfer c at m
+-- an exchange that finishes the transfer c at m
 pub finish-at : (m : Module) (y : Exchange) (j c flag : ℕ) → kindOf y ≡ Finished j c flag → inner .answer m (y .event) ≡ y .got → FinishOk (m .device .transfer) flag c
 finish-at m y j c flag k p =
     let f : FinishAct (act (y .event)) (y .got) j c flag = finished-act (act (y .event)) (y .got) j c flag (sym (kind-act y) ∙ k) in
@@ -109,7 +109,7 @@ go-on c m Ticks got p g q k =
     inr (record { which = inr (refl, tt); at = ap (λ (s : Store). s .transfer .phase) e ∙ p; ctx = ap (λ (s : Store). current (s .transfer)) e ∙ g })
 go-on c m Powers got p g q k = inl (record { old = omega (arith, g); other = λ r z. never (sym r) })
 
--- of an entry
+-- of an exchange
 abbrev pub Within : (context : ℕ) → Exchange → Type 0
 Within c x = Either Own Free (ownSend c) x
 

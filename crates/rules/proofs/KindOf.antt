@@ -1,4 +1,4 @@
--- What the kind of an entry tells of its act, and what an accepted Start's answer carries.
+-- What the kind of an exchange tells of its act, and what an accepted Start's answer carries.
 -- Assumes nothing.
 use Prim.Native.Nat.{ℕ, _+_, _≤_}
 use mathlib.Core.Path.{_≡_, refl, sym, _∙_, ap}
@@ -48,7 +48,7 @@ NoStart Ticked = Unit {0}
 NoStart Powered = Unit {0}
 NoStart Other = Unit {0}
 
--- an entry that started or finished a transfer is that call
+-- an exchange that started or finished a transfer is that call
 pub record StartAct (f : Act) (got : Answer) (host context : ℕ) : Type 0 where
   pub unserved : Bool
   pub misfit : Bool

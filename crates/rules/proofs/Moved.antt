@@ -19,7 +19,7 @@ use Rattle.rules.proofs.Gate.{Remains, Roomy, Inward, inwards, sound-in
 use Rattle.rules.proofs.Swap.{FreeAct, Free}
 use Rattle.rules.proofs.Inside.{Within, Begun, begun, inside, move-here}
 
--- what holds of every entry holds of every entry after a move
+-- what holds of every exchange holds of every exchange after a move
 pub all-move : (P : Exchange → Type 0) {h : History} (f : FinishedIn h) → All P h → All P (moved f)
 all-move P f a =
     all-join P (f .before) (others (f .context) (f .between) ++ (f .start ∷ (ownSends (f .context) (f .between) ++ last))) (all-left P (f .before) tail b)

@@ -59,7 +59,7 @@ UsesKind past Ticked = Unit {0}
 UsesKind past Powered = Unit {0}
 UsesKind past Other = Unit {0}
 
--- what an entry that remains does, by its kind: it comes in order, what is open fits the record after it, and only a Start gives a context
+-- what an exchange that remains does, by its kind: it comes in order, what is open fits the record after it, and only a Start gives a context
 pub record Goes (f : Act) (o : Open) (k : Kind) (s u : Store) : Type 0 where
   pub order : InOrder o k
   pub fits : Fits (openAfter o k) u

@@ -1,4 +1,4 @@
--- An accepted Start or Send and the entry after it may change places, where that is a Get FW Info, a call on the rest, or a tick.
+-- An accepted Start or Send and the exchange after it may change places, where that is a Get FW Info, a call on the rest, or a tick.
 -- Assumes nothing.
 use Prim.Native.Nat.{ℕ}
 use mathlib.Core.Path.{_≡_, refl, sym, _∙_, ap, subst}
@@ -122,7 +122,7 @@ swap m host a b x n answer Ticks e₁ e₂ w f p q =
     (q, subst (λ (u : Store). storeAnswer u a b x n answer ≡ e₁) (sym earlier) p, ap (λ (u : Store). join u (restOf m)) (later ∙ ap (λ (u : Store). storeNext u a b x) (sym earlier)))
 swap m host a b x n answer Powers e₁ e₂ w f p q = absurd f
 
--- of entries
+-- of exchanges
 pub record Own (x : Exchange) : Type 0 where
   pub which : OwnAct (act (x .event))
   pub kept : Kept (x .got)

@@ -1,4 +1,4 @@
--- Entries that may change places, and entries that may be struck out. For any machine.
+-- Exchanges that may change places, and exchanges that may be struck out. For any machine.
 -- Assumes nothing.
 use mathlib.Core.Path.{_≡_, refl, sym, _∙_, ap, subst}
 use mathlib.Core.Logic.{_⊎_, inl, inr}

@@ -214,7 +214,7 @@ shut m (call host revision index request answer) e =
 shut m tick e = absurd (false≢true e)
 shut m power e = absurd (false≢true e)
 
--- what an entry is to the transfers, by its act
+-- what an exchange is to the transfers, by its act
 kind-call : (host : ℕ) (a b : Bool) (c : Call) (n : ℕ) (answer : List ℕ) (got : Answer) → callKind host c got ≡ actKind (actOf host a b c n answer) got
 kind-call host a b (OnMask revision) n answer got = refl
 kind-call host a b (OnThresholds x) n answer got = refl

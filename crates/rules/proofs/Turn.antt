@@ -31,7 +31,7 @@ pub record Hosts (past : History) (o : Open) (s : Store) : Type 0 where
 pub hosts-fresh : (s : Store) → Hosts [] none s
 hosts-fresh s = record { sole = tt; below = λ host context m. absurd m }
 
--- an entry that is no Start adds no Start
+-- an exchange that is no Start adds no Start
 older : (past : History) (x : Exchange) (k : Kind) (host context : ℕ) → kindOf x ≡ k → NoStart k → AnsweredTo host context (x ∷ past) → AnsweredTo host context past
 older past x k host context e n (inl q) = absurd (subst NoStart (sym e ∙ q) n)
 older past x k host context e n (inr m) = m

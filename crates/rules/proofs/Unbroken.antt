@@ -72,7 +72,7 @@ found x r host c st q =
 settled : (x : Exchange) (r : History) (host c : ℕ) (st : kindOf x ≡ Started host c) (s : some (itsFinish c) r ≡ true) → moved (found x r host c st (split c r s)) ≡ settle (Started host c) x r
 settled x r host c st s = rw (s, split c r s .from)
 
--- moves under an entry in front, and moves after moves
+-- moves under an exchange in front, and moves after moves
 abbrev later : (x : Exchange) {k : History} → FinishedIn k → FinishedIn (x ∷ k)
 later x f =
     record {
@@ -183,7 +183,7 @@ past-part (z ∷ a) b (w ∷ pre) t x host c n st e =
     let tails : a ++ b ≡ pre ++ (x ∷ t) = cc in
     past-part a b pre t x host c (n .1) st tails
 
--- what stands unbroken stands so behind an entry that settles
+-- what stands unbroken stands so behind an exchange that settles
 unbroken-settle : (m : Module) (y : Exchange) (r : History) {h : History} (f : FinishedIn h) (k : Kind) → kindOf y ≡ k → Sound m → Plays machine m (y ∷ r) → All Remains (y ∷ r) → Unbroken r f
     → Unbroken (settle k y r) f
 unbroken-settle m y r f (Started host c) e w p l u = go (some (itsFinish c) r) refl
@@ -213,7 +213,7 @@ unbroken-settle m y r f Ticked e w p l u = record { ahead = y ∷ u .ahead; behi
 unbroken-settle m y r f Powered e w p l u = record { ahead = y ∷ u .ahead; behind = u .behind; stands = ap (λ (t : History). y ∷ t) (u .stands) }
 unbroken-settle m y r f Other e w p l u = record { ahead = y ∷ u .ahead; behind = u .behind; stands = ap (λ (t : History). y ∷ t) (u .stands) }
 
--- the first entry is the transfer's Start
+-- the first exchange is the transfer's Start
 unbroken-here : (m : Module) {h : History} (f : FinishedIn h) → f .before ≡ [] → Sound m → Plays machine m h → All Remains h → Unbroken (rearranged h) f
 unbroken-here m {h} f none-before w p k =
     record {
