@@ -121,9 +121,9 @@ abbrev received-all : Module → Bool
 received-all m =
     m .device .transfer .received =? 16384 && same? (m .area) (replicate 16380 7 ++ (1 ∷ 2 ∷ 3 ∷ 4 ∷ []))
 
--- no byte of a piece was taken: so many bytes are received, as before, and the area still ends with 7, from the piece's place on
+-- no byte of a piece was taken: so many bytes are received, as before, and the area is full of 7
 abbrev received-still : ℕ → Module → Bool
-received-still n m = m .device .transfer .received =? n && same? (drop 16380 (m .area)) (7 ∷ 7 ∷ 7 ∷ 7 ∷ [])
+received-still n m = m .device .transfer .received =? n && same? (m .area) (replicate areaSize 7)
 
 abbrev case-from : Module → List Deed → (Module → Bool) → Case
 case-from from deeds ends = record { from = from; deeds = deeds; ends = ends }
