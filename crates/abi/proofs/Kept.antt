@@ -21,8 +21,8 @@ use Rattle.rules.proofs.NoR.{NoR, call-through, event-through}
 use Rattle.rules.proofs.Fitting.{answers}
 use Rattle.module.specs.Promise.{Promised}
 use Rattle.module.specs.declared.Outcome.{Outcome}
-use Rattle.store.specs.Store.{storedSize, encodeOf, decodeOf}
-use Rattle.store.proofs.Refused.{possible-whole}
+use Rattle.device_encode.specs.Encoding.{encodedSize, encodeOf, decodeOf}
+use Rattle.device_encode.proofs.Refused.{possible-whole}
 use Rattle.abi.specs.Abi.{toldBy, told, keptBy, kept, Called, Happened, Sized, Keepable}
 
 -- a verdict that is known settles the number and the bytes
@@ -59,7 +59,7 @@ module _ (bytes area : List ℕ) (revision index : ℕ) (request answer : List �
   abbrev d : Device
   d = decodeOf bytes
 
-  through : (v : Verdict) → verdict (callChecks d area revision index request answer) ≡ v → NoR v → length bytes ≡ storedSize
+  through : (v : Verdict) → verdict (callChecks d area revision index request answer) ≡ v → NoR v → length bytes ≡ encodedSize
   through v e n =
       possible-whole bytes
       (call-through d area answer (servedCheck revision index ∷ lengthCheck index request ∷ checks d (callOf (rowOf index .function) revision request)) v e n .1 .0 .sound)

@@ -9,20 +9,20 @@ use lib.ListN.{length}
 use borrow.Author.Tests.{eq-eqb, ne-eqb}
 use Rattle.rules.specs.Tests.{if_then_else_}
 use Rattle.rules.specs.Record.{fresh}
-use Rattle.store.specs.Store.{storedSize, encodeOf}
+use Rattle.device_encode.specs.Encoding.{encodedSize, encodeOf}
 use Rattle.abi.specs.Abi.{refusal, Made}
 
-pub made : (bytes : List ℕ) {number : ℤ} {bytes′ : List ℕ} → length bytes ≡ storedSize → number ≡ pos 0 → bytes′ ≡ encodeOf fresh → Made bytes number bytes′
+pub made : (bytes : List ℕ) {number : ℤ} {bytes′ : List ℕ} → length bytes ≡ encodedSize → number ≡ pos 0 → bytes′ ≡ encodeOf fresh → Made bytes number bytes′
 made bytes h p q =
-    let e = sym (eq-eqb (length bytes) storedSize h) in
+    let e = sym (eq-eqb (length bytes) encodedSize h) in
     record {
       number-is = p ∙ ap (λ (t : Bool). if t then pos 0 else refusal 3) e;
       record-is = q ∙ ap (λ (t : Bool). if t then encodeOf fresh else bytes) e;
     }
 
-pub not-made : (bytes : List ℕ) → (length bytes ≡ storedSize → ⊥) → Made bytes (refusal 3) bytes
+pub not-made : (bytes : List ℕ) → (length bytes ≡ encodedSize → ⊥) → Made bytes (refusal 3) bytes
 not-made bytes h =
-    let e = sym (ne-eqb (length bytes) storedSize h) in
+    let e = sym (ne-eqb (length bytes) encodedSize h) in
     record {
       number-is = ap (λ (t : Bool). if t then pos 0 else refusal 3) e;
       record-is = ap (λ (t : Bool). if t then encodeOf fresh else bytes) e;

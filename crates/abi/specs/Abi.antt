@@ -14,7 +14,7 @@ use Rattle.rules.specs.declared.Verdict.{Verdict}
 use Rattle.rules.specs.declared.Verdict.the-variants.{Accepted, Refused}
 use Rattle.rules.specs.declared.Reply.{Reply}
 use Rattle.rules.specs.declared.Device.{Device}
-use Rattle.store.specs.Store.{storedSize, encodeOf}
+use Rattle.device_encode.specs.Encoding.{encodedSize, encodeOf}
 
 -- R1, R2 and R3 are -1, -2 and -3
 abbrev pub refusal : ℕ → ℤ
@@ -52,14 +52,14 @@ pub record Happened (result : Result) (bytes : List ℕ) (number : ℤ) (bytes�
 
 -- a fresh record, written where there are 128 bytes for it
 pub record Made (bytes : List ℕ) (number : ℤ) (bytes′ : List ℕ) : Type 0 where
-  pub number-is : number ≡ (if length bytes =? storedSize then pos 0 else refusal 3)
-  pub record-is : bytes′ ≡ (if length bytes =? storedSize then encodeOf fresh else bytes)
+  pub number-is : number ≡ (if length bytes =? encodedSize then pos 0 else refusal 3)
+  pub record-is : bytes′ ≡ (if length bytes =? encodedSize then encodeOf fresh else bytes)
 
 -- what the work behind them may count on: where no R number was given the record has its bytes, and the length fits the number given
 abbrev pub Sized : Verdict → (bytes : List ℕ) → Type 0
-Sized Accepted bytes = length bytes ≡ storedSize
+Sized Accepted bytes = length bytes ≡ encodedSize
 Sized (Refused (R number)) bytes = Unit {0}
-Sized (Refused (Status status ext)) bytes = length bytes ≡ storedSize
+Sized (Refused (Status status ext)) bytes = length bytes ≡ encodedSize
 
 pub record Keepable (reply : Reply) (bytes : List ℕ) : Type 0 where
   pub sized : Sized (reply .verdict) bytes

@@ -4,7 +4,7 @@ ghost use Prim.Native.Nat.{_≤_};
 ghost use lib.IntN.{pos};
 ghost use lib.ListN.{length};
 ghost use Rattle.rules.specs.Module.{callResult, tickResult, powerResult};
-ghost use Rattle.store.specs.Store.{encodeOf, decodeOf};
+ghost use Rattle.device_encode.specs.Encoding.{encodeOf, decodeOf};
 ghost use Rattle.abi.specs.Abi.{refusal, told, keptBy, Called, Happened, Made, Keepable};
 use module::Outcome;
 use rules::Device;
@@ -29,7 +29,7 @@ fn write(d: Device, bytes: &mut [u8], n: usize) -> i32
     requires { ⌜ (length (now bytes) ≡ 128) × (n ≤ 64) ⌝ }
     ensures { λ r. ⌜ (r ≡ pos n) × (now (bytes .exit) ≡ encodeOf d) ⌝ }
 {
-    store::put(d, bytes);
+    device_encode::put(d, bytes);
     length(n)
 }
 
@@ -76,7 +76,7 @@ pub extern "C" fn module_call(
 ) -> i32
     ensures { λ r. ⌜ Called (callResult (decodeOf (now (bytes .entry))) (now (area .entry)) revision function (now (request .entry)) (now (answer .entry))) (now (bytes .entry)) r (now (bytes .exit)) (now (area .exit)) (now (answer .exit)) ⌝ }
 {
-    let d = restore::decode(bytes);
+    let d = device_decode::decode(bytes);
     let outcome = module::call(d, area, revision, function, request, answer);
     keep(outcome, bytes)
 }
@@ -85,7 +85,7 @@ pub extern "C" fn module_call(
 pub extern "C" fn module_tick(bytes: &mut [u8], area: &[u8]) -> i32
     ensures { λ r. ⌜ Happened (tickResult (decodeOf (now (bytes .entry))) (now (area .entry))) (now (bytes .entry)) r (now (bytes .exit)) ⌝ }
 {
-    let d = restore::decode(bytes);
+    let d = device_decode::decode(bytes);
     let outcome = module::tick(d, area);
     keep(outcome, bytes)
 }
@@ -94,7 +94,7 @@ pub extern "C" fn module_tick(bytes: &mut [u8], area: &[u8]) -> i32
 pub extern "C" fn module_power(bytes: &mut [u8], area: &[u8]) -> i32
     ensures { λ r. ⌜ Happened (powerResult (decodeOf (now (bytes .entry))) (now (area .entry))) (now (bytes .entry)) r (now (bytes .exit)) ⌝ }
 {
-    let d = restore::decode(bytes);
+    let d = device_decode::decode(bytes);
     let outcome = module::power(d, area);
     keep(outcome, bytes)
 }

@@ -3,16 +3,16 @@
 ghost use Prim.Native.Nat.{_+_, _/_, _≤_};
 ghost use mathlib.Core.Path.{_≡_};
 ghost use lib.ListN.{length};
-use files::Filled;
-use files::PART;
-use files::RECORD;
-use files::TURNS;
 use module::Outcome;
+use program_files::Filled;
+use program_files::PART;
+use program_files::RECORD;
+use program_files::TURNS;
+use program_turns::ANSWER;
+use program_turns::AREA;
+use program_turns::Turn;
 use rules::Device;
 use rules::Entry;
-use turns::ANSWER;
-use turns::AREA;
-use turns::Turn;
 
 // The text of a part, 120 lines of at most 160 bytes, and that of the end state, two digits for each byte of the area and some short lines: in whole pages.
 const TEXT: usize = 36864;
@@ -50,7 +50,7 @@ fn answer_call(
     let f = function as u64;
     let outcome = module::call(d, area, v, f, request, &mut answer);
     let reply = outcome.reply;
-    let at = trace::put_answer(out, at, number, &answer, reply.length);
+    let at = answers_lines::put_answer(out, at, number, &answer, reply.length);
     played(at, outcome)
 }
 
@@ -66,7 +66,7 @@ fn answer_record(
     requires { ⌜ at + 160 ≤ length (now out) ⌝ }
     ensures { λ r. ⌜ r .at ≤ at + 160 ⌝ }
 {
-    let entry = log::decode(record);
+    let entry = log_record::decode(record);
     match entry {
         Entry::Call {
             host: _,
@@ -145,8 +145,8 @@ fn answer_filled(
     let have = filled.have;
     let answered = answer_part(out, buf, have, turn.number, turn.device, area);
     let at = answered.at;
-    let written = files::show(out, at);
-    let next = turns::next(turn, have, written, answered.device);
+    let written = program_files::show(out, at);
+    let next = program_turns::next(turn, have, written, answered.device);
     if written & (have != PART) {
         end_log(name, filled, next, out, area);
     }
@@ -158,14 +158,14 @@ fn end_log(name: &[u8], filled: Filled, turn: Turn, out: &mut [u8; TEXT], area: 
         os::fail(name);
         return;
     }
-    let end = trace::put_end(
+    let end = answers_lines::put_end(
         out,
         turn.number,
         filled.have % RECORD != 0,
         turn.device,
         area,
     );
-    files::show(out, end);
+    program_files::show(out, end);
 }
 
 // One log, part by part, so that memory does not grow with it.
@@ -176,13 +176,13 @@ fn answer_log(
     out: &mut [u8; TEXT],
     area: &mut [u8; AREA],
 ) {
-    let mut turn = turns::first();
+    let mut turn = program_turns::first();
     let mut turns: u64 = TURNS;
     while turns > 0 {
         if !turn.more {
             return;
         }
-        let filled = files::fill(fd, buf);
+        let filled = program_files::fill(fd, buf);
         turn = answer_filled(name, filled, turn, buf, out, area);
         turns -= 1;
     }
@@ -190,12 +190,12 @@ fn answer_log(
 
 fn answer_named(name: &[u8], buf: &mut [u8; PART], out: &mut [u8; TEXT]) {
     let mut area = [0u8; AREA];
-    let fd = files::open_log(name);
+    let fd = program_files::open_log(name);
     if fd < 0 {
         return;
     }
     answer_log(fd, name, buf, out, &mut area);
-    files::close_log(fd);
+    program_files::close_log(fd);
 }
 
 fn main() {

@@ -7,7 +7,7 @@ use native.Mathlib.Nat.{zero-add}
 use lib.ListN.{length, drop}
 use Rattle.rules.specs.Bytes.{le, splice, zeros}
 use Rattle.rules.specs.Refusals.{statusBytes}
-use Rattle.base.proofs.Parts.{splice-next}
+use Rattle.bytes_base.proofs.Parts.{splice-next}
 
 -- what is written over the front
 front : (new old : List ℕ) → splice 0 new old ≡ new ++ drop (length new) old

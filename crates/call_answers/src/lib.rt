@@ -27,9 +27,9 @@ pub fn put_status(answer: &mut [u8], status: u16, ext: u16, size: usize)
     requires { ⌜ size ≤ length (now answer) ⌝ }
     ensures { λ r. ⌜ now (answer .exit) ≡ answerAfter (statusBytes status ext ++ zeros (size - 4)) (now (answer .entry)) ⌝ }
 {
-    base::put_at(answer, 0, 2, status as u64);
-    base::put_at(answer, 2, 2, ext as u64);
-    base::put_at(answer, 4, size - 4, 0);
+    bytes_base::put_at(answer, 0, 2, status as u64);
+    bytes_base::put_at(answer, 2, 2, ext as u64);
+    bytes_base::put_at(answer, 4, size - 4, 0);
 }
 
 // What an accepted call answers, which its request has no part in.
@@ -38,7 +38,7 @@ pub fn put_accepted(d: Device, function: Function, revision: u64, answer: &mut [
     ensures { λ r. ⌜ ((request : List ℕ) → now (answer .exit) ≡ answerAfter (acceptedAnswer d (callOf function revision request)) (now (answer .entry))) ⌝ }
 {
     match function {
-        Function::Mask => base::put_at(answer, 0, 4, table::mask(revision) as u64),
+        Function::Mask => bytes_base::put_at(answer, 0, 4, call_table::mask(revision) as u64),
         Function::GetThreshold => threshold_answers::put_answer(d.thresholds, answer),
         Function::GetFwInfo => transfer_answers::put_info(d.transfer, answer),
         Function::Start => transfer_answers::put_started(d.transfer, answer),

@@ -61,7 +61,7 @@ fn judge_gate(
     if short {
         return Verdict::Refused(Refusal::R { number: 1 });
     }
-    let event = record::judge_event(d, area);
+    let event = device_record::judge_event(d, area);
     match event {
         Verdict::Refused(refusal) => Verdict::Refused(refusal),
         Verdict::Accepted => judge_table(revision, index, row, request),

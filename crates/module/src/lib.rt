@@ -18,7 +18,7 @@ pub struct Outcome {
 pub fn fresh() -> Device
     ensures { λ r. ⌜ r ≡ fresh ⌝ }
 {
-    record::fresh()
+    device_record::fresh()
 }
 
 // The checks in the page's order; then the answer and the change, or what the refusal leaves.
@@ -32,7 +32,7 @@ pub fn call(
 ) -> Outcome
     ensures { λ r. ⌜ Promised (callResult d (now (area .entry)) revision function (now (request .entry)) (now (answer .entry))) r (now (area .exit)) (now (answer .exit)) ⌝ }
 {
-    let row = table::look_up(function);
+    let row = call_table::look_up(function);
     let verdict = call_checks::judge(d, area, revision, function, row, request, answer);
     match verdict {
         Verdict::Accepted => {
@@ -46,7 +46,7 @@ pub fn call(
             Refusal::Status { status, ext } => {
                 let length = call_answers::status_length(status, row.answer);
                 call_answers::put_status(answer, status, ext, length);
-                result(record::left(status, d), verdict, length)
+                result(device_record::left(status, d), verdict, length)
             }
         },
     }
@@ -64,7 +64,7 @@ fn result(device: Device, verdict: Verdict, length: usize) -> Outcome
 pub fn tick(d: Device, area: &[u8]) -> Outcome
     ensures { λ r. ⌜ Promised (tickResult d (now (area .entry))) r (now (area .entry)) [] ⌝ }
 {
-    let verdict = record::judge_event(d, area);
+    let verdict = device_record::judge_event(d, area);
     match verdict {
         Verdict::Accepted => {
             let transfer = transfer_time::tick(d.transfer, area);
@@ -78,11 +78,11 @@ pub fn tick(d: Device, area: &[u8]) -> Outcome
 pub fn power(d: Device, area: &[u8]) -> Outcome
     ensures { λ r. ⌜ Promised (powerResult d (now (area .entry))) r (now (area .entry)) [] ⌝ }
 {
-    let verdict = record::judge_event(d, area);
+    let verdict = device_record::judge_event(d, area);
     match verdict {
         Verdict::Accepted => {
             let transfer = transfer_time::power(d.transfer);
-            let security = security::power(d.security);
+            let security = security_changes::power(d.security);
             let started = Device {
                 transfer,
                 security,

@@ -4,36 +4,36 @@ ghost use Prim.Native.Nat.{_+_, _/_, _≤_};
 ghost use mathlib.Core.Path.{_≡_};
 ghost use lib.ListN.{length, take};
 ghost use Rattle.rules.specs.Numbers.{answerRoom};
-ghost use Rattle.play.specs.Replayed.{moduleOf};
-ghost use Rattle.replay.specs.Places.{PartReplayed, partPlayed};
-use files::Filled;
-use files::PART;
-use files::RECORD;
-use files::TURNS;
-use play::Played;
+ghost use Rattle.replay_play.specs.Replayed.{moduleOf};
+ghost use Rattle.replay_log.specs.Places.{PartReplayed, partPlayed};
+use program_files::Filled;
+use program_files::PART;
+use program_files::RECORD;
+use program_files::TURNS;
+use program_turns::ANSWER;
+use program_turns::AREA;
+use program_turns::Turn;
+use replay_play::Played;
 use rules::Device;
-use turns::ANSWER;
-use turns::AREA;
-use turns::Turn;
 
 // The text of a part: 120 lines of at most 96 bytes, in whole pages of 4,096.
 const TEXT: usize = 12288;
 
 fn show_heading(out: &mut [u8; TEXT]) -> bool {
-    let end = lines::put_heading(out, 0);
-    files::show(out, end)
+    let end = replay_lines::put_heading(out, 0);
+    program_files::show(out, end)
 }
 
 // The line of a short tail, if there is one, and the last line.
 fn show_end(out: &mut [u8; TEXT], number: u64, short: bool, d: Device) {
     if short {
-        let tail = lines::put_tail(out, 0, number);
-        let end = lines::put_last(out, tail, d);
-        files::show(out, end);
+        let tail = replay_lines::put_tail(out, 0, number);
+        let end = replay_lines::put_last(out, tail, d);
+        program_files::show(out, end);
         return;
     }
-    let end = lines::put_last(out, 0, d);
-    files::show(out, end);
+    let end = replay_lines::put_last(out, 0, d);
+    program_files::show(out, end);
 }
 
 // The lines of the front of a buffer, of at most 120 records.
@@ -52,7 +52,7 @@ fn put_part(
     ensures { λ r. ⌜ r .at ≤ 12288 ⌝ }
     ensures { λ r. ⌜ PartReplayed number (moduleOf d (now (area .entry))) (take have (now (buf .entry))) (now (out .entry)) (now (out .exit)) (now (area .exit)) r ⌝ }
 {
-    replay::put_lines(out, &buf[..have], number, d, area, answer)
+    replay_log::put_lines(out, &buf[..have], number, d, area, answer)
 }
 
 // What was read of a log is replayed; what is less than a whole buffer ends it. A log that stops being readable has no last line.
@@ -74,8 +74,8 @@ fn replay_filled(
     let have = filled.have;
     let played = put_part(out, buf, have, turn.number, turn.device, area, answer);
     let at = played.at;
-    let written = files::show(out, at);
-    let next = turns::next(turn, have, written, played.device);
+    let written = program_files::show(out, at);
+    let next = program_turns::next(turn, have, written, played.device);
     if written & (have != PART) {
         end_log(name, filled, next, out);
     }
@@ -99,7 +99,7 @@ fn replay_log(
     area: &mut [u8; AREA],
     answer: &mut [u8; ANSWER],
 ) {
-    let first = files::fill(fd, buf);
+    let first = program_files::fill(fd, buf);
     if first.failed & (first.have == 0) {
         os::fail(name);
         return;
@@ -107,14 +107,14 @@ fn replay_log(
     if !show_heading(out) {
         return;
     }
-    let fresh = turns::first();
+    let fresh = program_turns::first();
     let mut turn = replay_filled(name, first, fresh, buf, out, area, answer);
     let mut turns: u64 = TURNS;
     while turns > 0 {
         if !turn.more {
             return;
         }
-        let filled = files::fill(fd, buf);
+        let filled = program_files::fill(fd, buf);
         turn = replay_filled(name, filled, turn, buf, out, area, answer);
         turns -= 1;
     }
@@ -123,12 +123,12 @@ fn replay_log(
 fn replay_named(name: &[u8], buf: &mut [u8; PART], out: &mut [u8; TEXT]) {
     let mut area = [0u8; AREA];
     let mut answer = [0u8; ANSWER];
-    let fd = files::open_log(name);
+    let fd = program_files::open_log(name);
     if fd < 0 {
         return;
     }
     replay_log(fd, name, buf, out, &mut area, &mut answer);
-    files::close_log(fd);
+    program_files::close_log(fd);
 }
 
 fn main() {

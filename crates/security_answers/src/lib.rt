@@ -25,6 +25,6 @@ pub fn put_state(s: Security, answer: &mut [u8])
     ensures { λ r. ⌜ now (answer .exit) ≡ splice 0 (statusBytes 0 0 ++ securityState s) (now (answer .entry)) ⌝ }
 {
     let mut bytes = [0u8; 12];
-    base::put_at(&mut bytes, 8, 1, state_byte(s) as u64);
-    base::copy(answer, &bytes);
+    bytes_base::put_at(&mut bytes, 8, 1, state_byte(s) as u64);
+    bytes_base::copy(answer, &bytes);
 }

@@ -28,7 +28,7 @@ fn judge_passphrase(s: Security, forbidden: bool, wrong: bool) -> Verdict
 fn same_passphrase(passphrase: [u8; 32], given: &[u8]) -> bool
     ensures { λ r. ⌜ r ≡ same? (now (given .entry)) passphrase ⌝ }
 {
-    base::same(&passphrase, given)
+    bytes_base::same(&passphrase, given)
 }
 
 pub fn judge_set_passphrase(s: Security, given: &[u8]) -> Verdict

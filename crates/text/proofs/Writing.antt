@@ -9,7 +9,7 @@ use native.Mathlib.Omega.{arith}
 use lib.ListN.{length, take, drop, set, length-append}
 use lib.Seq.{set-split, take-append-seam}
 use Rattle.rules.specs.Bytes.{splice}
-use Rattle.base.proofs.Parts.{splice-splice}
+use Rattle.bytes_base.proofs.Parts.{splice-splice}
 use Rattle.text.specs.Wrote.{Wrote}
 
 pub and-then : {old mid new a b : List ℕ} {at i j : ℕ} → at ≤ length old → Wrote old at a mid i → Wrote mid i b new j → Wrote old at (a ++ b) new j

@@ -11,7 +11,7 @@ pub fn put(out: &mut [u8], at: usize, text: &[u8]) -> usize
     requires { ⌜ at + length (now text) ≤ length (now out) ⌝ }
     ensures { λ r. ⌜ Wrote (now (out .entry)) at (now (text .entry)) (now (out .exit)) r ⌝ }
 {
-    base::copy_at(out, at, text);
+    bytes_base::copy_at(out, at, text);
     at + text.len()
 }
 

@@ -14,9 +14,9 @@ pub fn put_answer(h: Thresholds, answer: &mut [u8])
     ensures { λ r. ⌜ now (answer .exit) ≡ splice 0 (statusBytes 0 0 ++ thresholdAnswer h GetThreshold) (now (answer .entry)) ⌝ }
 {
     let mut bytes = [0u8; 12];
-    base::put_at(&mut bytes, 4, 2, h.enable as u64);
-    base::put_at(&mut bytes, 6, 1, h.spare as u64);
-    base::put_at(&mut bytes, 7, 2, h.media as u64);
-    base::put_at(&mut bytes, 9, 2, h.controller as u64);
-    base::copy(answer, &bytes);
+    bytes_base::put_at(&mut bytes, 4, 2, h.enable as u64);
+    bytes_base::put_at(&mut bytes, 6, 1, h.spare as u64);
+    bytes_base::put_at(&mut bytes, 7, 2, h.media as u64);
+    bytes_base::put_at(&mut bytes, 9, 2, h.controller as u64);
+    bytes_base::copy(answer, &bytes);
 }

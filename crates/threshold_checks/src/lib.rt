@@ -10,7 +10,7 @@ pub fn judge_set(request: &[u8]) -> Verdict
     requires { ⌜ length (now request) ≡ 7 ⌝ }
     ensures { λ r. ⌜ r ≡ verdict (thresholdChecks (setThresholdOf (now (request .entry)))) ⌝ }
 {
-    let spare = numbers::byte(request, 2);
+    let spare = bytes_numbers::byte(request, 2);
     let over = 100 < spare;
     if over {
         return Verdict::Refused(Refusal::Status { status: 3, ext: 0 });

@@ -14,14 +14,14 @@ pub fn put_info(t: Transfer, answer: &mut [u8])
     ensures { λ r. ⌜ now (answer .exit) ≡ splice 0 (statusBytes 0 0 ++ fwInfo t) (now (answer .entry)) ⌝ }
 {
     let mut bytes = [0u8; 44];
-    base::put_at(&mut bytes, 4, 4, 16384);
-    base::put_at(&mut bytes, 8, 4, 512);
-    base::put_at(&mut bytes, 12, 4, 1000);
-    base::put_at(&mut bytes, 16, 4, 8000);
-    base::put_at(&mut bytes, 24, 4, 1);
-    base::put_at(&mut bytes, 28, 8, t.running);
-    base::put_at(&mut bytes, 36, 8, t.staged);
-    base::copy(answer, &bytes);
+    bytes_base::put_at(&mut bytes, 4, 4, 16384);
+    bytes_base::put_at(&mut bytes, 8, 4, 512);
+    bytes_base::put_at(&mut bytes, 12, 4, 1000);
+    bytes_base::put_at(&mut bytes, 16, 4, 8000);
+    bytes_base::put_at(&mut bytes, 24, 4, 1);
+    bytes_base::put_at(&mut bytes, 28, 8, t.running);
+    bytes_base::put_at(&mut bytes, 36, 8, t.staged);
+    bytes_base::copy(answer, &bytes);
 }
 
 // The sum is made in 64 bits, where it is exact.
@@ -30,8 +30,8 @@ pub fn put_started(t: Transfer, answer: &mut [u8])
     ensures { λ r. ⌜ now (answer .exit) ≡ splice 0 (statusBytes 0 0 ++ startAnswer t) (now (answer .entry)) ⌝ }
 {
     let mut bytes = [0u8; 8];
-    base::put_at(&mut bytes, 4, 4, t.contexts as u64 + 1);
-    base::copy(answer, &bytes);
+    bytes_base::put_at(&mut bytes, 4, 4, t.contexts as u64 + 1);
+    bytes_base::copy(answer, &bytes);
 }
 
 pub fn put_queried(t: Transfer, answer: &mut [u8])
@@ -39,6 +39,6 @@ pub fn put_queried(t: Transfer, answer: &mut [u8])
     ensures { λ r. ⌜ now (answer .exit) ≡ splice 0 (statusBytes 0 0 ++ queryAnswer t) (now (answer .entry)) ⌝ }
 {
     let mut bytes = [0u8; 12];
-    base::put_at(&mut bytes, 4, 8, t.staged);
-    base::copy(answer, &bytes);
+    bytes_base::put_at(&mut bytes, 4, 8, t.staged);
+    bytes_base::copy(answer, &bytes);
 }

@@ -13,7 +13,7 @@ pub fn judge_start(t: Transfer) -> Verdict
     ensures { λ r. ⌜ r ≡ verdict (startChecks t) ⌝ }
 {
     let p = t.phase;
-    let n = record::phase_number(p);
+    let n = device_record::phase_number(p);
     let running = (n == 1) | (n == 2);
     let staged = n == 3;
     let given_out = t.contexts == 4294967295;
@@ -35,10 +35,10 @@ pub fn judge_send(t: Transfer, request: &[u8]) -> Verdict
     ensures { λ r. ⌜ r ≡ verdict (transferChecks t (sendOf (now (request .entry)))) ⌝ }
 {
     let p = t.phase;
-    let n = record::phase_number(p);
-    let context = numbers::word(request, 0);
-    let offset = numbers::word(request, 4);
-    let size = numbers::word(request, 8);
+    let n = device_record::phase_number(p);
+    let context = bytes_numbers::word(request, 0);
+    let offset = bytes_numbers::word(request, 4);
+    let size = bytes_numbers::word(request, 8);
     let follows = request.len() - 12;
     let end = offset as u64 + size as u64;
     let wrong = !(size as usize == follows) | (size == 0) | (512 < size) | (16384 < end);
@@ -61,7 +61,7 @@ fn live(t: Transfer, context: u32) -> bool
     ensures { λ r. ⌜ r ≡ live t context ⌝ }
 {
     let p = t.phase;
-    let n = record::phase_number(p);
+    let n = device_record::phase_number(p);
     !(n == 0) & (context == t.contexts)
 }
 
@@ -70,9 +70,9 @@ pub fn judge_finish(t: Transfer, request: &[u8]) -> Verdict
     ensures { λ r. ⌜ r ≡ verdict (transferChecks t (finishOf (now (request .entry)))) ⌝ }
 {
     let p = t.phase;
-    let n = record::phase_number(p);
-    let flag = numbers::byte(request, 0);
-    let context = numbers::word(request, 4);
+    let n = device_record::phase_number(p);
+    let flag = bytes_numbers::byte(request, 0);
+    let context = bytes_numbers::word(request, 4);
     let over = 1 < flag;
     let dead = !live(t, context);
     let out_of_turn = !(n == 1);
@@ -93,8 +93,8 @@ pub fn judge_query(t: Transfer, request: &[u8]) -> Verdict
     ensures { λ r. ⌜ r ≡ verdict (transferChecks t (queryOf (now (request .entry)))) ⌝ }
 {
     let p = t.phase;
-    let n = record::phase_number(p);
-    let context = numbers::word(request, 0);
+    let n = device_record::phase_number(p);
+    let context = bytes_numbers::word(request, 0);
     let dead = !live(t, context);
     let receiving = n == 1;
     let verifying = n == 2;

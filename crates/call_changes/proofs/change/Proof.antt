@@ -3,7 +3,7 @@
 use mathlib.Core.Path.{refl, _∙_, ap}
 use native.Mathlib.Omega.{arith}
 use lib.ListN.{length, length-drop}
-use Rattle.base.proofs.Parts.{rest}
+use Rattle.bytes_base.proofs.Parts.{rest}
 use Rattle.rules.specs.Security.{setPassphraseChange}
 use Rattle.rules.specs.With.{_with-transfer_, _with-thresholds_, _with-security_}
 use Rattle.rules.specs.declared.Transfer.{Transfer}

@@ -6,7 +6,7 @@ use mathlib.Core.List.{List}
 use native.Mathlib.Omega.{arith}
 use Rattle.rules.specs.declared.Device.{Device}
 use Rattle.rules.specs.Module.{Module}
-use Rattle.play.specs.Replayed.{moduleOf}
+use Rattle.replay_play.specs.Replayed.{moduleOf}
 use borrow.Author.Needs.{needs}
 use Rattle.replays.proofs.replay_filled.Statement.{statement}
 use Rattle.replays.proofs.replay_filled.Tie as tie

@@ -1,7 +1,7 @@
 -- `security_checks::same_passphrase` meets its contract. Which of the two is compared with which does not matter.
 -- Assumes nothing.
 use mathlib.Core.Path.{_∙_}
-use Rattle.base.proofs.Laws.{same-swap}
+use Rattle.bytes_base.proofs.Laws.{same-swap}
 use borrow.Author.Needs.{needs}
 use Rattle.security_checks.proofs.same_passphrase.Statement.{statement}
 use Rattle.security_checks.proofs.same_passphrase.Tie as tie

@@ -1,0 +1,137 @@
+// The device record back from bytes. Any bytes of any length decode: those that are no record, to one that is not possible.
+ghost use mathlib.Core.Path.{_≡_};
+ghost use lib.ListN.{length, take, drop};
+ghost use Rattle.rules.specs.Bytes.{zeros?};
+ghost use Rattle.device_encode.specs.Encoding.{phaseOf, record?, recordOf, impossible, decodeOf};
+use rules::Device;
+use rules::Phase;
+use rules::Security;
+use rules::Thresholds;
+use rules::Transfer;
+
+// Bytes 38 to 63 are zero, by four numbers and not byte by byte.
+fn zero_between(s: &[u8]) -> bool
+    requires { ⌜ length (now s) ≡ 128 ⌝ }
+    ensures { λ r. ⌜ r ≡ zeros? (take 26 (drop 38 (now (s .entry)))) ⌝ }
+{
+    (bytes_numbers::half(s, 38) == 0)
+        & (bytes_numbers::long(s, 40) == 0)
+        & (bytes_numbers::long(s, 48) == 0)
+        & (bytes_numbers::long(s, 56) == 0)
+}
+
+// Bytes 96 to 127 are zero.
+fn zero_after(s: &[u8]) -> bool
+    requires { ⌜ length (now s) ≡ 128 ⌝ }
+    ensures { λ r. ⌜ r ≡ zeros? (drop 96 (now (s .entry))) ⌝ }
+{
+    (bytes_numbers::long(s, 96) == 0)
+        & (bytes_numbers::long(s, 104) == 0)
+        & (bytes_numbers::long(s, 112) == 0)
+        & (bytes_numbers::long(s, 120) == 0)
+}
+
+fn is_record(s: &[u8]) -> bool
+    ensures { λ r. ⌜ r ≡ record? (now (s .entry)) ⌝ }
+{
+    if s.len() != 128 {
+        return false;
+    }
+    let phase = bytes_numbers::byte(s, 0);
+    let enabled = bytes_numbers::byte(s, 1);
+    let locked = bytes_numbers::byte(s, 2);
+    let frozen = bytes_numbers::byte(s, 3);
+    let unused = bytes_numbers::byte(s, 33);
+    let between = zero_between(s);
+    let after = zero_after(s);
+    (phase <= 4) & (enabled <= 1) & (locked <= 1) & (frozen <= 1) & (unused == 0) & between & after
+}
+
+fn phase_of(n: u8) -> Phase
+    ensures { λ r. ⌜ r ≡ phaseOf n ⌝ }
+{
+    let idle = n == 0;
+    let receiving = n == 1;
+    let verifying = n == 2;
+    let staged = n == 3;
+    if idle {
+        return Phase::Idle;
+    }
+    if receiving {
+        return Phase::Receiving;
+    }
+    if verifying {
+        return Phase::Verifying;
+    }
+    if staged {
+        return Phase::Staged;
+    }
+    Phase::Failed
+}
+
+fn to_record(s: &[u8]) -> Device
+    requires { ⌜ length (now s) ≡ 128 ⌝ }
+    ensures { λ r. ⌜ r ≡ recordOf (now (s .entry)) ⌝ }
+{
+    let phase = phase_of(bytes_numbers::byte(s, 0));
+    let transfer = Transfer {
+        phase,
+        contexts: bytes_numbers::word(s, 8),
+        received: bytes_numbers::word(s, 12),
+        ticks: bytes_numbers::byte(s, 5),
+        running: bytes_numbers::long(s, 16),
+        staged: bytes_numbers::long(s, 24),
+    };
+    let thresholds = Thresholds {
+        enable: bytes_numbers::half(s, 6),
+        spare: bytes_numbers::byte(s, 32),
+        media: bytes_numbers::half(s, 34),
+        controller: bytes_numbers::half(s, 36),
+    };
+    let mut passphrase = [0u8; 32];
+    bytes_base::copy(&mut passphrase, &s[64..96]);
+    let enabled = bytes_numbers::byte(s, 1) == 1;
+    let locked = bytes_numbers::byte(s, 2) == 1;
+    let frozen = bytes_numbers::byte(s, 3) == 1;
+    let security = Security {
+        enabled,
+        locked,
+        frozen,
+        attempts: bytes_numbers::byte(s, 4),
+        passphrase,
+    };
+    Device {
+        transfer,
+        thresholds,
+        security,
+    }
+}
+
+fn no_record() -> Device
+    ensures { λ r. ⌜ r ≡ impossible ⌝ }
+{
+    let fresh = device_record::fresh();
+    let transfer = Transfer {
+        phase: Phase::Failed,
+        ..fresh.transfer
+    };
+    Device { transfer, ..fresh }
+}
+
+// The record that the bytes say; bytes that are no record give one that is not possible.
+pub fn decode(s: &[u8]) -> Device
+    ensures { λ r. ⌜ r ≡ decodeOf (now (s .entry)) ⌝ }
+{
+    if is_record(s) {
+        return to_record(s);
+    }
+    no_record()
+}
+
+// Encoded and decoded again, every record is the same: the theorem as a contract.
+pub fn round_trip(d: Device) -> Device
+    ensures { λ r. ⌜ r ≡ d ⌝ }
+{
+    let bytes = device_encode::encode(d);
+    decode(&bytes)
+}

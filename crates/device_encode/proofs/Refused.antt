@@ -1,0 +1,28 @@
+-- Bytes that are no record decode to a record that is not possible, which R3 refuses; so a possible record came from 128 bytes.
+-- Assumes nothing.
+use mathlib.Core.Path.{_≡_, refl, sym, _∙_}
+use mathlib.Core.Bool.{Bool, true, false, false≢true}
+use mathlib.Core.List.{List}
+use Prim.Native.Nat.{ℕ}
+use lib.ListN.{length}
+use Rattle.rules.specs.Record.{possible, possibleTransfer}
+use Rattle.device_encode.specs.Encoding.{encodedSize, record?, impossible, decodeOf}
+use Rattle.device_encode.proofs.Fine.{fine}
+
+pub none-possible : possible impossible ≡ false
+unfolding possible possibleTransfer impossible
+none-possible = refl
+
+pub no-record : (s : List ℕ) → record? s ≡ false → possible (decodeOf s) ≡ false
+unfolding decodeOf
+no-record s e = rw e none-possible
+
+pub from-record : (s : List ℕ) → possible (decodeOf s) ≡ true → record? s ≡ true
+from-record s e = go (record? s) refl
+  where
+    go : (t : Bool) → record? s ≡ t → t ≡ true
+    go true p = refl
+    go false p = absurd (false≢true (sym (no-record s p) ∙ e))
+
+pub possible-whole : (s : List ℕ) → possible (decodeOf s) ≡ true → length s ≡ encodedSize
+possible-whole s e = fine s (from-record s e) .long

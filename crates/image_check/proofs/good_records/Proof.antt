@@ -1,0 +1,59 @@
+-- `image_check::good_records` meets its contract: past each good record those left are good where all are, and the first bad one decides.
+use Prim.Native.Nat.{ℕ, _≤_, _-_, _*_}
+use mathlib.Core.Path.{_≡_, sym, _∙_, ap}
+use native.Mathlib.Nat.{sub-zero}
+use lib.ListN.{drop}
+use borrow.Author.Needs.{needs}
+use borrow.Author.Tests.{not-true, not-false}
+use Rattle.rules.specs.Image.{goodRecords}
+use Rattle.image_check.proofs.Laws.{good-record-goes-on, bad-record-decides, no-record-left}
+use Rattle.image_check.proofs.good_records.Statement.{statement}
+use Rattle.image_check.proofs.good_records.Tie as tie
+
+abbrev Inv-loop : tie.InvT-loop
+Inv-loop n version bytes i₀ i =
+    (i ≤ n) × (goodRecords (n - i) i n version (drop (i * 128) bytes) ≡ goodRecords n 0 n version bytes)
+
+abbrev μ-loop : tie.MeasureT-loop
+μ-loop n version bytes i₀ i = n - i
+
+loop-holds : tie.Need-loop-holds Inv-loop μ-loop
+loop-holds c =
+    let a = c .before .args in
+    (search needs, ap (λ (left : ℕ). goodRecords left 0 a.n a.version a.bytes.now) (sub-zero a.n))
+
+returns : tie.Need-returns Inv-loop μ-loop
+returns c =
+    let bad = sym (c .before .good-record .ensures) ∙ not-true _ (c .if1 .taken) in
+    let k = c .before .before .before in
+    bad-record-decides _ _ _ _ (k .before .loop .inv .1) (k .loop-test .taken) bad
+
+loop-again : tie.Need-loop-again Inv-loop μ-loop
+loop-again c =
+    let good = sym (c .before .good-record .ensures) ∙ not-false _ (c .if1 .left) in
+    let k = c .before .before .before in
+    (search needs, good-record-goes-on _ _ _ _ (k .before .loop .inv .1) (k .loop-test .taken) good)
+
+returns-2 : tie.Need-returns-2 Inv-loop μ-loop
+returns-2 c = no-record-left _ _ _ _ (c .before .loop .inv .1) (c .loop-test .left)
+
+-- by search: cast-at, mul-at, add-end, sub-good-record, part-good-record-start, part-good-record-end, good-record-requires, add-i, loop-less
+pub good-records-spec : {M : Type 1} → statement M
+good-records-spec =
+    tie.close
+    (tie.spec
+    Inv-loop
+    μ-loop
+    loop-holds
+    (λ c. search needs)
+    (λ c. search needs)
+    (λ c. search needs)
+    (λ c. search needs)
+    (λ c. search needs)
+    (λ c. search needs)
+    (λ c κs. search needs)
+    returns
+    (λ c. search needs)
+    (λ c. search needs)
+    loop-again
+    returns-2)

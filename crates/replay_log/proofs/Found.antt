@@ -1,0 +1,65 @@
+-- What stands at a place of a log, as it is played: the three things that a reader finds.
+-- Assumes nothing.
+use mathlib.Core.Path.{_≡_, refl, sym, _∙_, ap, subst}
+use mathlib.Core.List.{List, [], _++_}
+use Prim.Native.Nat.{ℕ, _+_, _-_, _*_, _≤_, _<_}
+use native.Mathlib.Nat.{add-zero, add-sub-cancel-left}
+use native.Mathlib.Omega.{arith}
+use lib.ListN.{length, take, drop, take-append-drop}
+use Rattle.rules.specs.Module.{Module}
+use Rattle.rules.specs.Log.{entryOf, recordsIn, recordAt}
+use Rattle.rules.specs.declared.Entry.{Entry}
+use Rattle.log_reader.specs.declared.Found.{Found}
+use Rattle.log_reader.specs.declared.Found.the-variants.{Record}
+use Rattle.log_reader.specs.declared.Stood.{Stood}
+use Rattle.log_reader.specs.Reader.{stoodAt}
+use Rattle.log_reader.proofs.Places.{at-record, found-record}
+use Rattle.replay_play.specs.declared.Played.{Played}
+use Rattle.replay_play.specs.Replayed.{Replayed, RecordReplayed}
+use Rattle.replay_log.specs.Places.{PlaceReplayed, foundLine, foundPlayed}
+
+module _ (log : List ℕ) (place : ℕ) where
+  -- the part of the log that is lent is its record
+  pub record-part : take (place * 544 + 544 - place * 544) (drop (place * 544) log) ≡ recordAt log place
+  record-part = ap (λ (k : ℕ). take k (drop (place * 544) log)) (add-sub-cancel-left (place * 544) 544)
+
+  module _ {stood : Stood} (read : stood ≡ stoodAt log place) where
+    at-place : {found : Found} → stood .found ≡ found → stoodAt log place .found ≡ found
+    at-place told = ap (λ (s : Stood). s .found) (sym read) ∙ told
+
+    -- a record that was read ends within the log, and says what was read
+    pub record-within : {entry : Entry} → stood .found ≡ Record entry → place * 544 + 544 ≤ length log
+    record-within told =
+        let there = found-record log place (at-place told) .0 in
+        omega (arith, there)
+
+    pub record-says : {entry : Entry} → stood .found ≡ Record entry → entry ≡ entryOf (take (place * 544 + 544 - place * 544) (drop (place * 544) log))
+    record-says told = found-record log place (at-place told) .1 ∙ ap entryOf (sym record-part)
+
+    -- what was found was played
+    pub as-found : (number : ℕ) (m : Module) (found : Found) {old new area : List ℕ} {at : ℕ} {p : Played} → stood .found ≡ found
+        → Replayed (foundLine number m found (recordAt log place)) (foundPlayed m found (recordAt log place)) old at new area p
+        → PlaceReplayed number m log place old at new area p
+    as-found number m found {old} {new} {area} {at} {p} told w =
+        subst (λ (f : Found). Replayed (foundLine number m f (recordAt log place)) (foundPlayed m f (recordAt log place)) old at new area p) (sym (at-place told)) w
+
+    -- a record that was read was played
+    pub as-record : (number : ℕ) (m : Module) {entry : Entry} {old new area : List ℕ} {at : ℕ} {p : Played} → stood .found ≡ Record entry
+        → RecordReplayed number m (take (place * 544 + 544 - place * 544) (drop (place * 544) log)) old at new area p
+        → PlaceReplayed number m log place old at new area p
+    as-record number m {entry} {old} {new} {area} {at} {p} told w =
+        let says : entry ≡ entryOf (recordAt log place) = found-record log place (at-place told) .1 in
+        let here : RecordReplayed number m (recordAt log place) old at new area p = subst (λ (bytes : List ℕ). RecordReplayed number m bytes old at new area p) record-part w in
+        as-found number m (Record entry) told
+        (subst (λ (e : Entry). Replayed (foundLine number m (Record e) (recordAt log place)) (foundPlayed m (Record e) (recordAt log place)) old at new area p) (sym says) here)
+
+  -- where a record stands, playing what stands there is playing the record
+  pub place-record : (number : ℕ) (m : Module) {old new area : List ℕ} {at : ℕ} {p : Played} → place < recordsIn log
+      → PlaceReplayed number m log place old at new area p → RecordReplayed number m (recordAt log place) old at new area p
+  place-record number m {old} {new} {area} {at} {p} h w =
+      subst (λ (f : Found). Replayed (foundLine number m f (recordAt log place)) (foundPlayed m f (recordAt log place)) old at new area p)
+      (ap (λ (s : Stood). s .found) (at-record log place h)) w
+
+-- at the end there is no line
+pub nothing-written : (out : List ℕ) {m : Module} {at : ℕ} → Replayed [] m out at out (m .area) (record { at = at; device = m .device })
+nothing-written out {at = at} = record { wrote = record { next-is = omega arith; new-is = sym (ap (λ (n : ℕ). take at out ++ drop n out) (add-zero at) ∙ take-append-drop at out) }; module-is = refl }

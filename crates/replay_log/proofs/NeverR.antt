@@ -1,0 +1,23 @@
+-- A replay gives no R number: it starts from a possible record and an area of 16,384 bytes, and each record of a log leads to such a module again.
+-- Assumes nothing.
+use mathlib.Core.List.{List}
+use Prim.Native.Nat.{ℕ, zero, suc}
+use lib.ListN.{length-replicate}
+use Rattle.rules.specs.Log.{recordAt}
+use Rattle.rules.specs.Replay.{replayStart, moduleAfter}
+use Rattle.rules.proofs.NoR.{NoR}
+use Rattle.rules.proofs.Possible.{possible-fresh}
+use Rattle.replay_play.specs.Verdicts.{recordVerdict}
+use Rattle.replay_play.proofs.NoR.{SoundModule, no-R}
+
+start-sound : SoundModule replayStart
+start-sound = record { whole = length-replicate {A = ℕ} 16384 0; sound = possible-fresh }
+
+after-sound : (log : List ℕ) (j : ℕ) → SoundModule (moduleAfter replayStart log j)
+unfolding moduleAfter
+after-sound log zero = start-sound
+after-sound log (suc j) = no-R (moduleAfter replayStart log j) (recordAt log j) (after-sound log j) .0
+
+-- any record of any log
+pub never-R : (log : List ℕ) (j : ℕ) → NoR (recordVerdict (moduleAfter replayStart log j) (recordAt log j))
+never-R log j = no-R (moduleAfter replayStart log j) (recordAt log j) (after-sound log j) .1

@@ -1,0 +1,45 @@
+-- A log that comes in parts: what a program that goes part by part writes for it.
+-- Assumes nothing.
+use mathlib.Core.Path.{_≡_}
+use mathlib.Core.Bool.{not}
+use mathlib.Core.List.{List, [], _∷_, _++_}
+use Prim.Native.Nat.{ℕ, _+_, _*_}
+use lib.ListN.{length}
+use Rattle.rules.specs.Tests.{_=?_}
+use Rattle.rules.specs.Module.{Module}
+use Rattle.rules.specs.Log.{recordSize, recordsIn}
+use Rattle.rules.specs.Replay.{replayStart, recordLines, moduleAfter, heading, tailLine, lastLine}
+
+-- the log: its parts, one after the other, and a tail
+abbrev pub logOf : (parts : List (List ℕ)) (tail : List ℕ) → List ℕ
+logOf [] tail = tail
+logOf (part ∷ parts) tail = part ++ logOf parts tail
+
+-- each part is whole records
+abbrev pub Whole : (parts : List (List ℕ)) → Type 0
+Whole [] = Unit {0}
+Whole (part ∷ parts) = (length part ≡ recordsIn part * recordSize) × Whole parts
+
+-- the records of all parts
+abbrev pub recordsOver : (parts : List (List ℕ)) → ℕ
+recordsOver [] = 0
+recordsOver (part ∷ parts) = recordsIn part + recordsOver parts
+
+-- the module after all parts: each part goes on where the one before it left
+abbrev pub moduleOver : Module → (parts : List (List ℕ)) → Module
+moduleOver m [] = m
+moduleOver m (part ∷ parts) = moduleOver (moduleAfter m part (recordsIn part)) parts
+
+-- the lines of all parts, written part by part
+abbrev pub linesOver : (number : ℕ) → Module → (parts : List (List ℕ)) → List ℕ
+linesOver number m [] = []
+linesOver number m (part ∷ parts) =
+    recordLines number m part (recordsIn part) ++ linesOver (number + recordsIn part) (moduleAfter m part (recordsIn part)) parts
+
+-- the whole text: the heading, the lines of each part, the line of a tail that is not empty, and the last line
+abbrev pub textOver : (parts : List (List ℕ)) (tail : List ℕ) → List ℕ
+textOver parts tail =
+    heading
+    ++ linesOver 0 replayStart parts
+    ++ tailLine (recordsOver parts) (not (length tail =? 0))
+    ++ lastLine (moduleOver replayStart parts .device)

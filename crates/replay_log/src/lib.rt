@@ -1,0 +1,75 @@
+// The replay of a log, by places and parts: what stands there is played on the module, and its text is written into a lent buffer.
+ghost use mathlib.Core.Path.{_≡_};
+ghost use Prim.Native.Nat.{_+_, _*_, _^_, _≤_, _<_};
+ghost use lib.ListN.{length};
+ghost use Rattle.rules.specs.Numbers.{answerRoom};
+ghost use Rattle.text.specs.Wrote.{lineRoom};
+ghost use Rattle.rules.specs.Log.{recordsIn};
+ghost use Rattle.replay_play.specs.Replayed.{moduleOf};
+ghost use Rattle.replay_log.specs.Places.{PlaceReplayed, PartReplayed};
+use log_reader::Found;
+use replay_play::Played;
+use rules::Device;
+
+// What the reader finds at a place of a log is played, and its line is written: a record's, a short tail's, or none at the end.
+pub fn play_at(
+    out: &mut [u8],
+    at: usize,
+    number: u64,
+    d: Device,
+    area: &mut [u8],
+    answer: &mut [u8],
+    log: &[u8],
+    place: usize,
+) -> Played
+    requires { ⌜ at + lineRoom ≤ length (now out) ⌝ }
+    requires { ⌜ length (now answer) ≡ answerRoom ⌝ }
+    ensures { λ r. ⌜ r .at ≤ at + lineRoom ⌝ }
+    ensures { λ r. ⌜ PlaceReplayed number (moduleOf d (now (area .entry))) (now (log .entry)) place (now (out .entry)) at (now (out .exit)) (now (area .exit)) r ⌝ }
+{
+    let stood = log_reader::read_at(log, place);
+    let found = stood.found;
+    match found {
+        Found::Record(entry) => {
+            let start = place * 544;
+            let end = start + 544;
+            replay_play::play_entry(out, at, number, d, area, answer, entry, &log[start..end])
+        }
+        Found::Short => {
+            let next = replay_lines::put_tail(out, at, number);
+            Played {
+                at: next,
+                device: d,
+            }
+        }
+        Found::End => Played { at, device: d },
+    }
+}
+
+// The whole records of a part of a log are played one by one, the first of which has the number given; a tail is left to the caller.
+pub fn put_lines(
+    out: &mut [u8],
+    part: &[u8],
+    number: u64,
+    d: Device,
+    area: &mut [u8],
+    answer: &mut [u8],
+) -> Played
+    requires { ⌜ recordsIn (now part) * lineRoom ≤ length (now out) ⌝ }
+    requires { ⌜ number + recordsIn (now part) < 2 ^ 64 ⌝ }
+    requires { ⌜ length (now answer) ≡ answerRoom ⌝ }
+    ensures { λ r. ⌜ r .at ≤ recordsIn (now (part .entry)) * lineRoom ⌝ }
+    ensures { λ r. ⌜ PartReplayed number (moduleOf d (now (area .entry))) (now (part .entry)) (now (out .entry)) (now (out .exit)) (now (area .exit)) r ⌝ }
+{
+    let count = part.len() / 544;
+    let mut played = Played { at: 0, device: d };
+    let mut j = 0;
+    while j < count {
+        let at = played.at;
+        let device = played.device;
+        let next = number + j as u64;
+        played = play_at(out, at, next, device, area, answer, part, j);
+        j += 1;
+    }
+    played
+}

@@ -1,0 +1,11 @@
+-- `rules_demands::demand_1` meets its contract. It is the theorem of rules.
+-- Assumes nothing.
+use Rattle.rules.proofs.Demand1.{demand-1}
+use Rattle.rules_demands.proofs.demand_1.Statement.{statement}
+use Rattle.rules_demands.proofs.demand_1.Tie as tie
+
+returns : tie.Need-returns
+returns c = demand-1
+
+pub demand-1-spec : {M : Type 1} → statement M
+demand-1-spec = tie.close (tie.spec returns)

@@ -1,0 +1,68 @@
+-- `transfer_changes::send` meets its contract. What acceptance says of the numbers puts the part inside the area, and the part that is lent comes back with the piece in it.
+-- Assumes nothing.
+use mathlib.Core.Path.{_∙_, ap}
+use mathlib.Core.List.{List, []}
+use Prim.Native.Nat.{ℕ, _+_, _-_, _≤_}
+use native.Mathlib.Omega.{arith}
+use lib.ListN.{length, take, drop}
+use Rattle.rules.specs.Bytes.{splice, numberAt}
+use Rattle.rules.proofs.Accepted.{SendFits, send-fits}
+use Rattle.bytes_base.proofs.Parts.{rest, part-long, lent-copy}
+use borrow.Author.Needs.{needs}
+use Rattle.transfer_changes.proofs.send.Statement.{statement}
+use Rattle.transfer_changes.proofs.send.Tie as tie
+
+-- what acceptance says of the numbers that were read
+fits : (c : tie.After-word2) → SendFits (c .before .before .before .before .args .t) (c .before .word .result) (c .word2 .result) (drop 12 (c .before .before .before .before .args .request .now))
+fits c =
+    let a = c .before .before .before .before .args in
+    let q = a .request .now in
+    rw (c .before .word .ensures, c .word2 .ensures) (send-fits (a .t) (numberAt 4 0 q) (numberAt 4 4 q) (numberAt 4 8 q) (drop 12 q) (c .before .before .before .before .pre .1 .1))
+
+part-copy-end : tie.Need-part-copy-end
+part-copy-end c = let f = fits c in omega (arith, c .before .before .before .before .pre .0)
+
+copy-requires : tie.Need-copy-requires
+copy-requires c κs =
+    let k = c .before .before in
+    let a = k .before .before .before .before .args in
+    let f = fits k in
+    let h : k .before .word .result + k .word2 .result ≤ length (a .area .now) = omega (arith, k .before .before .before .before .pre .0) in
+    rw (rest 12 (a .request .now), part-long (k .before .word .result) (k .word2 .result) (a .area .now) [] h) (omega arith)
+
+add-received : tie.Need-add-received
+add-received c = let f = fits (c .before .before .before .before .before .before) in omega arith
+
+returns : tie.Need-returns
+returns c =
+    let k = c .before .before .before .before .before .before in
+    let a = k .before .before .before .before .args in
+    let f = fits k in
+    let h : k .before .word .result + k .word2 .result ≤ length (a .area .now) = omega (arith, k .before .before .before .before .pre .0) in (
+      simp (k .word2 .ensures),
+      lent-copy (k .before .word .result) (k .word2 .result) (a .area .now) _ h (drop 12 (a .request .now)) (omega arith)
+          (c .before .before .before .copy .ensures ∙ ap (λ (z : List ℕ). splice 0 z (take (k .before .word .result + k .word2 .result - k .before .word .result) (drop (k .before .word .result) (a .area .now)))) (rest 12 (a .request .now)))
+          ∙ ap (λ (o : ℕ). splice o (drop 12 (a .request .now)) (a .area .now)) (k .before .word .ensures),
+    )
+
+-- by search: word-requires, cast-offset, word-requires-2, cast-end, add-end, sub-copy, part-copy-start, sub-copy-2, part-copy-start-2,
+-- part-copy-end-2, same-length
+pub send-spec : {M : Type 1} → statement M
+send-spec =
+    tie.close
+    (tie.spec
+    (λ c κs. search needs)
+    (λ c. search needs)
+    (λ c κs. search needs)
+    (λ c. search needs)
+    (λ c. search needs)
+    (λ c. search needs)
+    (λ c. search needs)
+    part-copy-end
+    (λ c. search needs)
+    (λ c. search needs)
+    (λ c. search needs)
+    copy-requires
+    add-received
+    (λ c. search needs)
+    returns)

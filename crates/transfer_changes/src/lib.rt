@@ -1,0 +1,62 @@
+// Document 01, "A firmware transfer": what an accepted Start, Send and Finish change, in the transfer's part of the record and in the staging area.
+ghost use mathlib.Core.Path.{_≡_};
+ghost use Prim.Native.Nat.{_≤_};
+ghost use lib.ListN.{length};
+ghost use Rattle.rules.specs.Numbers.{areaSize};
+ghost use Rattle.rules.specs.Refusals.{verdict};
+ghost use Rattle.rules.specs.Transfer.{Start, sendOf, finishOf, startChecks, transferChecks, transferChange, transferArea};
+use rules::Phase;
+use rules::Transfer;
+use rules::Verdict;
+
+pub fn start(t: Transfer) -> Transfer
+    requires { ⌜ verdict (startChecks t) ≡ Verdict.Accepted ⌝ }
+    ensures { λ r. ⌜ r ≡ transferChange t Start ⌝ }
+{
+    Transfer {
+        phase: Phase::Receiving,
+        contexts: t.contexts + 1,
+        received: 0,
+        ..t
+    }
+}
+
+// The piece, which starts at byte 12 of the request, goes into the part of the area from offset to offset plus length.
+pub fn send(t: Transfer, area: &mut [u8], request: &[u8]) -> Transfer
+    requires { ⌜ length (now area) ≡ areaSize ⌝ }
+    requires { ⌜ 12 ≤ length (now request) ⌝ }
+    requires { ⌜ verdict (transferChecks t (sendOf (now request))) ≡ Verdict.Accepted ⌝ }
+    ensures { λ r. ⌜ r ≡ transferChange t (sendOf (now (request .entry))) ⌝ }
+    ensures { λ r. ⌜ now (area .exit) ≡ transferArea (sendOf (now (request .entry))) (now (area .entry)) ⌝ }
+{
+    let offset = bytes_numbers::word(request, 4) as usize;
+    let size = bytes_numbers::word(request, 8);
+    let end = offset + size as usize;
+    bytes_base::copy(&mut area[offset..end], &request[12..]);
+    let received = t.received + size;
+    let p = t.phase;
+    Transfer {
+        phase: p,
+        received,
+        ..t
+    }
+}
+
+pub fn finish(t: Transfer, request: &[u8]) -> Transfer
+    requires { ⌜ length (now request) ≡ 8 ⌝ }
+    ensures { λ r. ⌜ r ≡ transferChange t (finishOf (now (request .entry))) ⌝ }
+{
+    let verify = bytes_numbers::byte(request, 0) == 0;
+    if verify {
+        return Transfer {
+            phase: Phase::Verifying,
+            ticks: 8,
+            ..t
+        };
+    }
+    Transfer {
+        phase: Phase::Idle,
+        received: 0,
+        ..t
+    }
+}
