@@ -6,12 +6,12 @@ use mathlib.Core.List.{List}
 use Rattle.rules.specs.Refusals.{verdict, eventChecks}
 use Rattle.rules.specs.Table.{rowOf}
 use Rattle.rules.specs.Transfer.{GetFwInfo, Start, Send, Finish, Query}
-use Rattle.rules.specs.Module.{Call, OnMask, OnThresholds, OnTransfer, OnSecurity, OnNothing, Module, Event, call, tick, power, outcome, happened, callChecks, callResult, tickResult, powerResult, callIn}
+use Rattle.rules.specs.Record.{Module}
+use Rattle.rules.specs.Module.{Call, OnMask, OnThresholds, OnTransfer, OnSecurity, OnNothing, Event, call, tick, power, outcome, ticked, powered, happened, callChecks, callResult, tickResult, powerResult, callIn}
 use Rattle.rules.specs.Transfers.{machine, Kind, Started, Sent, Finished, Ticked, Powered, Other, callKind, eventKind}
 use Rattle.rules.specs.declared.Refusal.the-variants.{R, Status}
 use Rattle.rules.specs.declared.Verdict.{Verdict}
 use Rattle.rules.specs.declared.Verdict.the-variants.{Accepted, Refused}
-use Rattle.rules.specs.declared.Device.{Device}
 
 -- no accepted Send
 abbrev pub NoSend : Kind → Type 0
@@ -22,27 +22,27 @@ NoSend Ticked = Unit {0}
 NoSend Powered = Unit {0}
 NoSend Other = Unit {0}
 
-outcome-area : (v : Verdict) (host : ℕ) (d : Device) (area : List ℕ) (c : Call) (n : ℕ) (answer : List ℕ)
-    → NoSend (callKind host c (record { reply = outcome v d area c n answer .reply; buffer = outcome v d area c n answer .answer })) → outcome v d area c n answer .area ≡ area
-outcome-area Accepted host d area (OnMask revision) n answer k = refl
-outcome-area Accepted host d area (OnThresholds x) n answer k = refl
-outcome-area Accepted host d area (OnTransfer GetFwInfo) n answer k = refl
-outcome-area Accepted host d area (OnTransfer Start) n answer k = refl
-outcome-area Accepted host d area (OnTransfer (Send context offset size piece)) n answer k = absurd k
-outcome-area Accepted host d area (OnTransfer (Finish flag context)) n answer k = refl
-outcome-area Accepted host d area (OnTransfer (Query context)) n answer k = refl
-outcome-area Accepted host d area (OnSecurity x) n answer k = refl
-outcome-area Accepted host d area OnNothing n answer k = refl
-outcome-area (Refused (R number)) host d area c n answer k = refl
-outcome-area (Refused (Status status ext)) host d area c n answer k = refl
+outcome-area : (v : Verdict) (host : ℕ) (m : Module) (c : Call) (n : ℕ) (answer : List ℕ)
+    → NoSend (callKind host c (record { reply = outcome v m c n answer .reply; buffer = outcome v m c n answer .answer })) → outcome v m c n answer .after .area ≡ m .area
+outcome-area Accepted host m (OnMask revision) n answer k = refl
+outcome-area Accepted host m (OnThresholds x) n answer k = refl
+outcome-area Accepted host m (OnTransfer GetFwInfo) n answer k = refl
+outcome-area Accepted host m (OnTransfer Start) n answer k = refl
+outcome-area Accepted host m (OnTransfer (Send context offset size piece)) n answer k = absurd k
+outcome-area Accepted host m (OnTransfer (Finish flag context)) n answer k = refl
+outcome-area Accepted host m (OnTransfer (Query context)) n answer k = refl
+outcome-area Accepted host m (OnSecurity x) n answer k = refl
+outcome-area Accepted host m OnNothing n answer k = refl
+outcome-area (Refused (R number)) host m c n answer k = refl
+outcome-area (Refused (Status status ext)) host m c n answer k = refl
 
-happened-area : (v : Verdict) (changed was : Device) (area : List ℕ) → happened v changed was area .area ≡ area
-happened-area Accepted changed was area = refl
-happened-area (Refused refusal) changed was area = refl
+happened-area : (v : Verdict) (changed was : Module) → changed .area ≡ was .area → happened v changed was .after .area ≡ was .area
+happened-area Accepted changed was e = e
+happened-area (Refused refusal) changed was e = refl
 
 pub area-stays : (m : Module) (event : Event) → NoSend (eventKind event (machine .answer m event)) → machine .next m event .area ≡ m .area
 unfolding callResult tickResult powerResult
 area-stays m (call host revision index request answer) k =
-    outcome-area (verdict (callChecks (m .device) (m .area) revision index request answer)) host (m .device) (m .area) (callIn revision index request) (rowOf index .answer) answer k
-area-stays m tick k = happened-area (verdict (eventChecks (m .device) (m .area))) _ (m .device) (m .area)
-area-stays m power k = happened-area (verdict (eventChecks (m .device) (m .area))) _ (m .device) (m .area)
+    outcome-area (verdict (callChecks m revision index request answer)) host m (callIn revision index request) (rowOf index .answer) answer k
+area-stays m tick k = happened-area (verdict (eventChecks m)) (ticked m) m refl
+area-stays m power k = happened-area (verdict (eventChecks m)) (powered m) m refl

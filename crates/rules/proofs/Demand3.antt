@@ -2,13 +2,14 @@
 -- Assumes nothing.
 use mathlib.Core.Path.{_≡_, refl, sym, _∙_, ap, subst}
 use mathlib.Core.List.{[]}
-use Rattle.rules.specs.Module.{Module, Event, tick}
+use Rattle.rules.specs.Record.{Module}
+use Rattle.rules.specs.Module.{Event, tick}
 use Rattle.rules.specs.History.{historyOf, end, All}
 use Rattle.rules.specs.Transfers.{machine, History, none}
 use Rattle.rules.specs.Demand3.{freshWith, struck, StrikeOut, EachFromOneHost, Stages, Due, StagedExactly, StagedAsSent, Demand3, DemandOfWhatRemains, Sound, FromAnywhere, WithAnyHosts, DemandFromAnywhere, DemandWithAnyHosts}
 use Rattle.rules.proofs.Joining.{plays-log}
 use Rattle.rules.proofs.Struck.{strike-out}
-use Rattle.rules.proofs.Parts.{storeOf, storeTick, inner}
+use Rattle.rules.proofs.Split.{partOf, partTick, inner}
 use Rattle.rules.proofs.Possible.{sound-fresh, sound-through, sound-end}
 use Rattle.rules.proofs.Gate.{Remains, Inward, inwards}
 use Rattle.rules.proofs.Moved.{move}
@@ -67,19 +68,19 @@ with-any-hosts area size events = record { one-after-another = orders none m r w
         forth : Stages (end machine m h) event version → (event ≡ tick) × Due r version
         forth g =
             let q = stages-ripe (end machine m h) event version (sound-end m h w) g in
-            (q .0, ripe-due m r version w refl refl (into .plays) k (subst (λ (z : Module). Ripe (storeOf z) version) (sym same-end) (q .1)))
+            (q .0, ripe-due m r version w refl refl (into .plays) k (subst (λ (z : Module). Ripe (partOf z) version) (sym same-end) (q .1)))
 
         back : (event ≡ tick) × Due r version → Stages (end machine m h) event version
         back g =
             subst (λ (e : Event). Stages (end machine m h) e version) (sym (g .0))
             (ripe-stages (end machine m h) version (sound-end m h w)
-            (subst (λ (z : Module). Ripe (storeOf z) version) same-end (due-ripe m r version w refl (into .plays) k (g .1))))
+            (subst (λ (z : Module). Ripe (partOf z) version) same-end (due-ripe m r version w refl (into .plays) k (g .1))))
 
     as-sent : StagedAsSent m h
     as-sent version d =
         let z : Module = end machine m h in
-        ap (λ (u : Module). bytesOf (storeOf u)) (sound-through z tick (sound-end m h w) refl .nexts-as)
-        ∙ ap (λ (u : Module). bytesOf (storeTick (storeOf u))) (sym same-end)
+        ap (λ (u : Module). bytesOf (partOf u)) (sound-through z tick (sound-end m h w) refl .nexts-as)
+        ∙ ap (λ (u : Module). bytesOf (partTick (partOf u))) (sym same-end)
         ∙ due-sent m r version w refl (into .plays) k d
 
 -- From a fresh module, where what remains is honest.
@@ -121,7 +122,7 @@ of-what-remains area size events honest =
     k = all-remains h
 
     from-one-host : EachFromOneHost r
-    from-one-host = one-host [] none m r w refl (hosts-fresh (storeOf m)) honest (inwards m r w (anywhere .strike-out .plays) k .plays) k
+    from-one-host = one-host [] none m r w refl (hosts-fresh (partOf m)) honest (inwards m r w (anywhere .strike-out .plays) k .plays) k
 
 -- Demand 3.
 pub demand-3 : Demand3

@@ -9,10 +9,9 @@ use borrow.Author.Tests.{eqb-true}
 use Rattle.rules.specs.Tests.{if_then_else_, _=?_}
 use Rattle.rules.specs.Numbers.{verification}
 use Rattle.rules.specs.With.{_with-ticks_, _with-phase_, _with-received_}
-use Rattle.rules.specs.Record.{_is_}
+use Rattle.rules.specs.Record.{_is_, Module}
 use Rattle.rules.specs.Image.{imageOf}
 use Rattle.rules.specs.Transfer.{GetFwInfo, Start, Send, Finish, Query, receivedBytes}
-use Rattle.rules.specs.Module.{Module}
 use Rattle.rules.specs.History.{Plays, end, All}
 use Rattle.rules.specs.Transfers.{Answer, Exchange, History, Kind, Finished, Ticked, Other, kindOf, Open, none, by, bytesSoFar, ContextIs, InOrder, AllInOrder}
 use Rattle.rules.specs.Sends.{ownSends, pieces, FinishedIn, tickCount, ticksIn, powerCount, powerCycles}
@@ -21,7 +20,7 @@ use Rattle.rules.specs.declared.Phase.{Phase}
 use Rattle.rules.specs.declared.Phase.the-variants.{Idle, Verifying}
 use Rattle.rules.specs.declared.Transfer.{Transfer}
 use Rattle.rules.proofs.Joining.{plays-right, end-join}
-use Rattle.rules.proofs.Parts.{Store, storeOf, Act, Transfers, Others, Ticks, Powers, act, storeChange, storeNext, storeTick, answers, nexts, inner, actKind}
+use Rattle.rules.proofs.Split.{TransferPart, partOf, Act, Transfers, Others, Ticks, Powers, act, partChange, partNext, partTick, answers, nexts, inner, actKind}
 use Rattle.rules.proofs.Through.{kind-act}
 use Rattle.rules.proofs.Facts.{never, Kept, accepted-call, changes, send-ok, finish-ok, Tick, calm, counting, good, bad, tick-case}
 use Rattle.rules.proofs.Possible.{sound-act}
@@ -31,16 +30,16 @@ use Rattle.rules.proofs.Order.{openAtEnd, Fits, goes, orders, chosen, b
 use Rattle.rules.proofs.Pieces.{open-join, orders-left, AtFinish, at-finish, Opened, opened}
 use Rattle.rules.proofs.Stage.{Ripe, quiet, busy, no-tick}
 
-abbrev pub bytesOf : Store → List ℕ
+abbrev pub bytesOf : TransferPart → List ℕ
 bytesOf s = receivedBytes (s .transfer) (s .area)
 
 -- While it verifies the ticks are counted, and the bytes stay
-pub record Held (s u : Store) (n : ℕ) : Type 0 where
+pub record Held (s u : TransferPart) (n : ℕ) : Type 0 where
   pub at : u .transfer .phase ≡ Verifying
   pub count : u .transfer .ticks + n ≡ s .transfer .ticks
   pub bytes : bytesOf u ≡ bytesOf s
 
-held-tick : (s : Store) → s .transfer .phase ≡ Verifying → 1 < s .transfer .ticks → Tick (s .transfer) (s .area) → Held s (storeTick s) 1
+held-tick : (s : TransferPart) → s .transfer .phase ≡ Verifying → 1 < s .transfer .ticks → Tick (s .transfer) (s .area) → Held s (partTick s) 1
 held-tick s p l (calm n e) = never (sym (ap (λ (z : Phase). z is Verifying) p) ∙ n)
 held-tick s p l (counting q k e) =
     subst (λ (t : Transfer). Held s (record { transfer = t; area = s .area }) 1) (sym e) (record { at = p; count = omega arith; bytes = refl })
@@ -48,35 +47,35 @@ held-tick s p l (good version q k i e) = absurd (omega arith)
 held-tick s p l (bad q k i e) = absurd (omega arith)
 
 held-act : (m : Module) (f : Act) (got : Answer) → m .device .transfer .phase ≡ Verifying → powerCount (actKind f got) ≡ 0 → tickCount (actKind f got) < m .device .transfer .ticks
-    → Held (storeOf m) (storeOf (nexts m f)) (tickCount (actKind f got))
+    → Held (partOf m) (partOf (nexts m f)) (tickCount (actKind f got))
 held-act m (Transfers host a b x n answer) got p z l =
-    subst (λ (u : Store). Held (storeOf m) u (tickCount (actKind (Transfers host a b x n answer) got))) (sym (quiet (storeOf m) a b x (ap busy p)))
+    subst (λ (u : TransferPart). Held (partOf m) u (tickCount (actKind (Transfers host a b x n answer) got))) (sym (quiet (partOf m) a b x (ap busy p)))
     (record { at = p; count = omega (arith, no-tick host x got); bytes = refl })
 held-act m (Others a b x n answer) got p z l = record { at = p; count = omega arith; bytes = refl }
-held-act m Ticks got p z l = held-tick (storeOf m) p l (tick-case (m .device .transfer) (m .area))
+held-act m Ticks got p z l = held-tick (partOf m) p l (tick-case (m .device .transfer) (m .area))
 held-act m Powers got p z l = absurd (omega arith)
 
-pub held : (m : Module) (h : History) → m .device .transfer .phase ≡ Verifying → powerCycles h ≡ 0 → ticksIn h < m .device .transfer .ticks → Held (storeOf m) (storeOf (end inner m h)) (ticksIn h)
+pub held : (m : Module) (h : History) → m .device .transfer .phase ≡ Verifying → powerCycles h ≡ 0 → ticksIn h < m .device .transfer .ticks → Held (partOf m) (partOf (end inner m h)) (ticksIn h)
 held m [] p z l = record { at = p; count = omega arith; bytes = refl }
 held m (x ∷ h) p z l =
     let e = kind-act x in
-    let a : Held (storeOf m) (storeOf (inner .next m (x .event))) (tickCount (kindOf x)) =
-    subst (λ (k : Kind). Held (storeOf m) (storeOf (inner .next m (x .event))) (tickCount k)) (sym e)
+    let a : Held (partOf m) (partOf (inner .next m (x .event))) (tickCount (kindOf x)) =
+    subst (λ (k : Kind). Held (partOf m) (partOf (inner .next m (x .event))) (tickCount k)) (sym e)
     (held-act m (act (x .event)) (x .got) p (omega (arith, ap powerCount e)) (omega (arith, ap tickCount e))) in
-    let b : Held (storeOf (inner .next m (x .event))) (storeOf (end inner m (x ∷ h))) (ticksIn h) = held (inner .next m (x .event)) h (a .at) (omega arith) (omega (arith, a .count)) in
+    let b : Held (partOf (inner .next m (x .event))) (partOf (end inner m (x ∷ h))) (ticksIn h) = held (inner .next m (x .event)) h (a .at) (omega arith) (omega (arith, a .count)) in
     record { at = b .at; count = omega (arith, a .count, b .count); bytes = b .bytes ∙ a .bytes }
 
 -- what an accepted Finish without abort leaves
 pub after-finish : (m : Module) (x : Exchange) (host context : ℕ) → kindOf x ≡ Finished host context 0 → inner .answer m (x .event) ≡ x .got
-    → storeOf (inner .next m (x .event)) ≡ storeChange (storeOf m) (Finish 0 context)
+    → partOf (inner .next m (x .event)) ≡ partChange (partOf m) (Finish 0 context)
 after-finish m x host context k p =
     let a : FinishAct (act (x .event)) (x .got) host context 0 = finished-act (act (x .event)) (x .got) host context 0 (sym (kind-act x) ∙ k) in
-    ap (λ (z : Act). storeOf (nexts m z)) (a .act-is)
-    ∙ changes (storeOf m) (a .unserved) (a .misfit) (Finish 0 context)
-    (good-accepted (storeOf m) (a .unserved) (a .misfit) (Finish 0 context) (a .n) (a .answer) (x .got) (subst (λ (z : Act). answers m z ≡ x .got) (a .act-is) p) (a .good))
+    ap (λ (z : Act). partOf (nexts m z)) (a .act-is)
+    ∙ changes (partOf m) (a .unserved) (a .misfit) (Finish 0 context)
+    (good-accepted (partOf m) (a .unserved) (a .misfit) (Finish 0 context) (a .n) (a .answer) (x .got) (subst (λ (z : Act). answers m z ≡ x .got) (a .act-is) p) (a .good))
 
 -- A record in Verifying has such a history
-record Waiting (h : History) (s : Store) : Type 0 where
+record Waiting (h : History) (s : TransferPart) : Type 0 where
   before : History
   finish : Exchange
   since : History
@@ -90,7 +89,7 @@ record Waiting (h : History) (s : Store) : Type 0 where
   some : 1 ≤ s .transfer .ticks
   no-power : powerCycles since ≡ 0
 
-Watch : History → Store → Type 0
+Watch : History → TransferPart → Type 0
 Watch h s = s .transfer .phase ≡ Verifying → Waiting h s
 
 ticks-snoc : (h : History) (x : Exchange) → ticksIn (h ++ (x ∷ [])) ≡ ticksIn h + tickCount (kindOf x)
@@ -102,7 +101,7 @@ powers-snoc [] x = omega arith
 powers-snoc (y ∷ h) x = omega (arith, powers-snoc h x)
 
 -- one exchange more, which is no power cycle
-longer : (h : History) (s u : Store) (x : Exchange) → Waiting h s → powerCount (kindOf x) ≡ 0 → bytesOf u ≡ bytesOf s → tickCount (kindOf x) + u .transfer .ticks ≡ s .transfer .ticks → 1 ≤ u .transfer .ticks
+longer : (h : History) (s u : TransferPart) (x : Exchange) → Waiting h s → powerCount (kindOf x) ≡ 0 → bytesOf u ≡ bytesOf s → tickCount (kindOf x) + u .transfer .ticks ≡ s .transfer .ticks → 1 ≤ u .transfer .ticks
     → Waiting (h ++ (x ∷ [])) u
 longer h s u x w n b l m =
     record {
@@ -121,13 +120,13 @@ longer h s u x w n b l m =
     }
 
 -- the same store, one exchange more
-same-watch : (h : History) (s u : Store) (x : Exchange) → u ≡ s → kindOf x ≡ Other → Watch h s → Watch (h ++ (x ∷ [])) u
+same-watch : (h : History) (s u : TransferPart) (x : Exchange) → u ≡ s → kindOf x ≡ Other → Watch h s → Watch (h ++ (x ∷ [])) u
 unfolding Watch
 same-watch h s u x e k w p =
-    let v : Waiting h s = w (ap (λ (z : Store). z .transfer .phase) (sym e) ∙ p) in
-    subst (λ (z : Store). Waiting (h ++ (x ∷ [])) z) (sym e) (longer h s s x v (ap powerCount k) refl (omega (arith, ap tickCount k)) (v .some))
+    let v : Waiting h s = w (ap (λ (z : TransferPart). z .transfer .phase) (sym e) ∙ p) in
+    subst (λ (z : TransferPart). Waiting (h ++ (x ∷ [])) z) (sym e) (longer h s s x v (ap powerCount k) refl (omega (arith, ap tickCount k)) (v .some))
 
-watch-tick : (h : History) (s : Store) (x : Exchange) → kindOf x ≡ Ticked → Watch h s → Tick (s .transfer) (s .area) → Watch (h ++ (x ∷ [])) (storeTick s)
+watch-tick : (h : History) (s : TransferPart) (x : Exchange) → kindOf x ≡ Ticked → Watch h s → Tick (s .transfer) (s .area) → Watch (h ++ (x ∷ [])) (partTick s)
 unfolding Watch
 watch-tick h s x k w (calm n e) p = never (sym (ap (λ (z : Phase). z is Verifying) p) ∙ ap (λ (t : Transfer). t .phase is Verifying) e ∙ n)
 watch-tick h s x k w (counting q l e) p =
@@ -136,15 +135,15 @@ watch-tick h s x k w (counting q l e) p =
 watch-tick h s x k w (good version q l i e) p = never (sym (ap (λ (z : Phase). z is Verifying) p) ∙ ap (λ (t : Transfer). t .phase is Verifying) e)
 watch-tick h s x k w (bad q l i e) p = never (sym (ap (λ (z : Phase). z is Verifying) p) ∙ ap (λ (t : Transfer). t .phase is Verifying) e)
 
-watch-finish : (h : History) (s : Store) (x : Exchange) (host context flag : ℕ) → kindOf x ≡ Finished host context flag → ContextIs (openAtEnd none h) context → bytesOf s ≡ bytesSoFar (openAtEnd none h)
-    → Watch (h ++ (x ∷ [])) (storeChange s (Finish flag context))
+watch-finish : (h : History) (s : TransferPart) (x : Exchange) (host context flag : ℕ) → kindOf x ≡ Finished host context flag → ContextIs (openAtEnd none h) context → bytesOf s ≡ bytesSoFar (openAtEnd none h)
+    → Watch (h ++ (x ∷ [])) (partChange s (Finish flag context))
 unfolding Watch
 watch-finish h s x host context flag k o b = go (flag =? 0) refl
   where
-    go : (c : Bool) → (flag =? 0) ≡ c → (storeChange s (Finish flag context) .transfer .phase ≡ Verifying) → Waiting (h ++ (x ∷ [])) (storeChange s (Finish flag context))
+    go : (c : Bool) → (flag =? 0) ≡ c → (partChange s (Finish flag context) .transfer .phase ≡ Verifying) → Waiting (h ++ (x ∷ [])) (partChange s (Finish flag context))
     go true e p =
         let zero-flag : flag ≡ 0 = eqb-true flag 0 e in
-        subst (λ (n : ℕ). Waiting (h ++ (x ∷ [])) (storeChange s (Finish n context))) (sym zero-flag)
+        subst (λ (n : ℕ). Waiting (h ++ (x ∷ [])) (partChange s (Finish n context))) (sym zero-flag)
         (record {
           before = h;
           finish = x;
@@ -161,44 +160,44 @@ watch-finish h s x host context flag k o b = go (flag =? 0) refl
         })
     go false e p = never (sym (ap (λ (z : Phase). z is Verifying) p) ∙ ap (λ (c : Bool). (if c then s .transfer with-phase Verifying with-ticks verification else (s .transfer with-phase Idle with-received 0)) .phase is Verifying) e)
 
-watch-act : (h : History) (x : Exchange) (m : Module) (f : Act) → kindOf x ≡ actKind f (x .got) → Fits (openAtEnd none h) (storeOf m) → InOrder (openAtEnd none h) (kindOf x) → Watch h (storeOf m)
-    → answers m f ≡ x .got → Kept (x .got) → Watch (h ++ (x ∷ [])) (storeOf (nexts m f))
+watch-act : (h : History) (x : Exchange) (m : Module) (f : Act) → kindOf x ≡ actKind f (x .got) → Fits (openAtEnd none h) (partOf m) → InOrder (openAtEnd none h) (kindOf x) → Watch h (partOf m)
+    → answers m f ≡ x .got → Kept (x .got) → Watch (h ++ (x ∷ [])) (partOf (nexts m f))
 watch-act h x m (Transfers host a b GetFwInfo n answer) e o t w p k =
-    same-watch h (storeOf m) (storeNext (storeOf m) a b GetFwInfo) x
-    (changes (storeOf m) a b GetFwInfo (accepted-call (storeOf m) a b GetFwInfo n answer (ap (λ (z : Answer). remains (z .reply .verdict)) p ∙ k))) e w
+    same-watch h (partOf m) (partNext (partOf m) a b GetFwInfo) x
+    (changes (partOf m) a b GetFwInfo (accepted-call (partOf m) a b GetFwInfo n answer (ap (λ (z : Answer). remains (z .reply .verdict)) p ∙ k))) e w
 watch-act h x m (Transfers host a b Start n answer) e o t w p k = unfold Watch in (λ q.
-    let c = changes (storeOf m) a b Start (accepted-call (storeOf m) a b Start n answer (ap (λ (z : Answer). remains (z .reply .verdict)) p ∙ k)) in
-    never (sym (ap (λ (z : Phase). z is Verifying) q) ∙ ap (λ (s : Store). s .transfer .phase is Verifying) c))
+    let c = changes (partOf m) a b Start (accepted-call (partOf m) a b Start n answer (ap (λ (z : Answer). remains (z .reply .verdict)) p ∙ k)) in
+    never (sym (ap (λ (z : Phase). z is Verifying) q) ∙ ap (λ (s : TransferPart). s .transfer .phase is Verifying) c))
 watch-act h x m (Transfers host a b (Send context offset size piece) n answer) e o t w p k = unfold Watch in (λ q.
-    let v = accepted-call (storeOf m) a b (Send context offset size piece) n answer (ap (λ (z : Answer). remains (z .reply .verdict)) p ∙ k) in
-    let c = changes (storeOf m) a b (Send context offset size piece) v in
-    never (sym (ap (λ (z : Phase). z is Verifying) q) ∙ ap (λ (s : Store). s .transfer .phase is Verifying) c
-    ∙ ap (λ (z : Phase). z is Verifying) (send-ok (storeOf m) a b context offset size piece v .at)))
+    let v = accepted-call (partOf m) a b (Send context offset size piece) n answer (ap (λ (z : Answer). remains (z .reply .verdict)) p ∙ k) in
+    let c = changes (partOf m) a b (Send context offset size piece) v in
+    never (sym (ap (λ (z : Phase). z is Verifying) q) ∙ ap (λ (s : TransferPart). s .transfer .phase is Verifying) c
+    ∙ ap (λ (z : Phase). z is Verifying) (send-ok (partOf m) a b context offset size piece v .at)))
 watch-act h x m (Transfers host a b (Finish flag context) n answer) e o t w p k =
-    let v = accepted-call (storeOf m) a b (Finish flag context) n answer (ap (λ (z : Answer). remains (z .reply .verdict)) p ∙ k) in
-    let kind : kindOf x ≡ Finished host context flag = e ∙ chosen (x .got) (Finished host context flag) (accepted-good (storeOf m) a b (Finish flag context) n answer (x .got) p v) in
-    subst (λ (s : Store). Watch (h ++ (x ∷ [])) s) (sym (changes (storeOf m) a b (Finish flag context) v))
-    (watch-finish h (storeOf m) x host context flag kind (subst (λ (z : Kind). InOrder (openAtEnd none h) z) kind t)
-    (bytes-open (openAtEnd none h) (storeOf m) o (finish-ok (storeOf m) a b flag context v .at)))
+    let v = accepted-call (partOf m) a b (Finish flag context) n answer (ap (λ (z : Answer). remains (z .reply .verdict)) p ∙ k) in
+    let kind : kindOf x ≡ Finished host context flag = e ∙ chosen (x .got) (Finished host context flag) (accepted-good (partOf m) a b (Finish flag context) n answer (x .got) p v) in
+    subst (λ (s : TransferPart). Watch (h ++ (x ∷ [])) s) (sym (changes (partOf m) a b (Finish flag context) v))
+    (watch-finish h (partOf m) x host context flag kind (subst (λ (z : Kind). InOrder (openAtEnd none h) z) kind t)
+    (bytes-open (openAtEnd none h) (partOf m) o (finish-ok (partOf m) a b flag context v .at)))
 watch-act h x m (Transfers host a b (Query context) n answer) e o t w p k =
-    same-watch h (storeOf m) (storeNext (storeOf m) a b (Query context)) x
-    (changes (storeOf m) a b (Query context) (accepted-call (storeOf m) a b (Query context) n answer (ap (λ (z : Answer). remains (z .reply .verdict)) p ∙ k))) e w
-watch-act h x m (Others a b y n answer) e o t w p k = same-watch h (storeOf m) (storeOf m) x refl e w
-watch-act h x m Ticks e o t w p k = watch-tick h (storeOf m) x e w (tick-case (m .device .transfer) (m .area))
+    same-watch h (partOf m) (partNext (partOf m) a b (Query context)) x
+    (changes (partOf m) a b (Query context) (accepted-call (partOf m) a b (Query context) n answer (ap (λ (z : Answer). remains (z .reply .verdict)) p ∙ k))) e w
+watch-act h x m (Others a b y n answer) e o t w p k = same-watch h (partOf m) (partOf m) x refl e w
+watch-act h x m Ticks e o t w p k = watch-tick h (partOf m) x e w (tick-case (m .device .transfer) (m .area))
 watch-act h x m Powers e o t w p k = unfold Watch in (λ q. never (sym (ap (λ (z : Phase). z is Verifying) q)))
 
-watch : (before : History) (m : Module) (h : History) → Sound m → Fits (openAtEnd none before) (storeOf m) → Watch before (storeOf m) → Plays inner m h → All Remains h
-    → Watch (before ++ h) (storeOf (end inner m h))
+watch : (before : History) (m : Module) (h : History) → Sound m → Fits (openAtEnd none before) (partOf m) → Watch before (partOf m) → Plays inner m h → All Remains h
+    → Watch (before ++ h) (partOf (end inner m h))
 watch before m [] s o w p k = rw append-nil w
 watch before m (x ∷ h) s o w p k =
     let g = goes x (openAtEnd none before) m s o (p .0) (k .0) in
     let w′ = watch-act before x m (act (x .event)) (kind-act x) o (g .order) w (p .0) (k .0) in
-    subst (λ (z : History). Watch z (storeOf (end inner m (x ∷ h)))) (append-assoc before (x ∷ []) h)
+    subst (λ (z : History). Watch z (partOf (end inner m (x ∷ h)))) (append-assoc before (x ∷ []) h)
     (watch (before ++ (x ∷ [])) (inner .next m (x .event)) h (sound-act m (act (x .event)) s)
-    (subst (λ (z : Open). Fits z (storeOf (inner .next m (x .event)))) (sym (open-join none before (x ∷ []))) (g .fits)) w′ (p .1) (k .1))
+    (subst (λ (z : Open). Fits z (partOf (inner .next m (x .event)))) (sym (open-join none before (x ∷ []))) (g .fits)) w′ (p .1) (k .1))
 
 -- The transfer that is waiting, from its Start
-due-from : (h : History) (s : Store) (version : ℕ) → AllInOrder none h → Waiting h s → Ripe s version → Due h version
+due-from : (h : History) (s : TransferPart) (version : ℕ) → AllInOrder none h → Waiting h s → Ripe s version → Due h version
 due-from h s version t w r = go (openAtEnd none (w .before)) refl (w .of-open) (w .bytes)
   where
     go : (o : Open) → openAtEnd none (w .before) ≡ o → ContextIs o (w .context) → bytesOf s ≡ bytesSoFar o → Due h version
@@ -227,22 +226,22 @@ due-from h s version t w r = go (openAtEnd none (w .before)) refl (w .of-open) (
         }
 
 -- Forth: what is ripe is due
-pub ripe-due : (m : Module) (h : History) (version : ℕ) → Sound m → Fits none (storeOf m) → (m .device .transfer .phase is Verifying) ≡ false → Plays inner m h → All Remains h
-    → Ripe (storeOf (end inner m h)) version → Due h version
+pub ripe-due : (m : Module) (h : History) (version : ℕ) → Sound m → Fits none (partOf m) → (m .device .transfer .phase is Verifying) ≡ false → Plays inner m h → All Remains h
+    → Ripe (partOf (end inner m h)) version → Due h version
 unfolding Watch
 ripe-due m h version s o n p k r =
-    due-from h (storeOf (end inner m h)) version (orders none m h s o p k)
+    due-from h (partOf (end inner m h)) version (orders none m h s o p k)
     (watch [] m h s o (λ q. never (sym (ap (λ (z : Phase). z is Verifying) q) ∙ n)) p k (r .at)) r
 
 -- where a staging is due: the last tick is left, and the received bytes are the transfer's own pieces
-record Waits (h : History) (version : ℕ) (d : Due h version) (s : Store) : Type 0 where
+record Waits (h : History) (version : ℕ) (d : Due h version) (s : TransferPart) : Type 0 where
   at : s .transfer .phase ≡ Verifying
   last : s .transfer .ticks ≤ 1
   own : bytesOf s ≡ pieces (ownSends (d .transfer .context) (d .transfer .between))
 
-due-waits : (m : Module) (h : History) (version : ℕ) → Sound m → Fits none (storeOf m) → Plays inner m h → All Remains h → (d : Due h version) → Waits h version d (storeOf (end inner m h))
+due-waits : (m : Module) (h : History) (version : ℕ) → Sound m → Fits none (partOf m) → Plays inner m h → All Remains h → (d : Due h version) → Waits h version d (partOf (end inner m h))
 due-waits m h version s o p k d =
-    subst (λ (z : Module). Waits h version d (storeOf z)) (sym (ap (end inner m) whole ∙ end-join inner m pre last))
+    subst (λ (z : Module). Waits h version d (partOf z)) (sym (ap (end inner m) whole ∙ end-join inner m pre last))
     (record { at = hold .at; last = omega (arith, hold .count, d .seven-ticks, eight); own = hold .bytes ∙ ap bytesOf e ∙ at .bytes-are })
   where
     f : FinishedIn h
@@ -266,31 +265,31 @@ due-waits m h version s o p k d =
     q : Plays inner v last
     q = plays-right inner m pre last (at .played)
 
-    e : storeOf (inner .next v (f .finish .event)) ≡ storeChange (storeOf v) (Finish 0 (f .context))
+    e : partOf (inner .next v (f .finish .event)) ≡ partChange (partOf v) (Finish 0 (f .context))
     e = after-finish v (f .finish) (f .finisher) (f .context) (f .finishes ∙ ap (Finished (f .finisher) (f .context)) (d .no-abort)) (q .0)
 
-    eight : storeOf (inner .next v (f .finish .event)) .transfer .ticks ≡ verification
-    eight = ap (λ (z : Store). z .transfer .ticks) e
+    eight : partOf (inner .next v (f .finish .event)) .transfer .ticks ≡ verification
+    eight = ap (λ (z : TransferPart). z .transfer .ticks) e
 
-    hold : Held (storeOf (inner .next v (f .finish .event))) (storeOf (end inner v last)) (ticksIn (f .since))
-    hold = held (inner .next v (f .finish .event)) (f .since) (ap (λ (z : Store). z .transfer .phase) e) (d .no-power-cycle) (omega (arith, d .seven-ticks, eight))
+    hold : Held (partOf (inner .next v (f .finish .event))) (partOf (end inner v last)) (ticksIn (f .since))
+    hold = held (inner .next v (f .finish .event)) (f .since) (ap (λ (z : TransferPart). z .transfer .phase) e) (d .no-power-cycle) (omega (arith, d .seven-ticks, eight))
 
 -- Back: what is due is ripe
-pub due-ripe : (m : Module) (h : History) (version : ℕ) → Sound m → Fits none (storeOf m) → Plays inner m h → All Remains h → Due h version → Ripe (storeOf (end inner m h)) version
+pub due-ripe : (m : Module) (h : History) (version : ℕ) → Sound m → Fits none (partOf m) → Plays inner m h → All Remains h → Due h version → Ripe (partOf (end inner m h)) version
 due-ripe m h version s o p k d =
     let w = due-waits m h version s o p k d in
     record { at = w .at; last = w .last; good-image = ap imageOf (w .own) ∙ d .good }
 
 -- a tick leaves the received bytes
-tick-bytes : (s : Store) → Tick (s .transfer) (s .area) → bytesOf (storeTick s) ≡ bytesOf s
+tick-bytes : (s : TransferPart) → Tick (s .transfer) (s .area) → bytesOf (partTick s) ≡ bytesOf s
 tick-bytes s (calm n e) = ap (λ (t : Transfer). receivedBytes t (s .area)) e
 tick-bytes s (counting q l e) = ap (λ (t : Transfer). receivedBytes t (s .area)) e
 tick-bytes s (good version q l i e) = ap (λ (t : Transfer). receivedBytes t (s .area)) e
 tick-bytes s (bad q l i e) = ap (λ (t : Transfer). receivedBytes t (s .area)) e
 
 -- What is staged is what was sent
-pub due-sent : (m : Module) (h : History) (version : ℕ) → Sound m → Fits none (storeOf m) → Plays inner m h → All Remains h → (d : Due h version)
-    → bytesOf (storeTick (storeOf (end inner m h))) ≡ pieces (ownSends (d .transfer .context) (d .transfer .between))
+pub due-sent : (m : Module) (h : History) (version : ℕ) → Sound m → Fits none (partOf m) → Plays inner m h → All Remains h → (d : Due h version)
+    → bytesOf (partTick (partOf (end inner m h))) ≡ pieces (ownSends (d .transfer .context) (d .transfer .between))
 due-sent m h version s o p k d =
     let u : Module = end inner m h in
-    tick-bytes (storeOf u) (tick-case (u .device .transfer) (u .area)) ∙ due-waits m h version s o p k d .own
+    tick-bytes (partOf u) (tick-case (u .device .transfer) (u .area)) ∙ due-waits m h version s o p k d .own

@@ -9,11 +9,10 @@ use borrow.Author.Tests.{ltb-true, ltb-false, eqb-true, eqb-false, not-false}
 use Rattle.rules.specs.Tests.{if_then_else_, _=?_, _<?_}
 use Rattle.rules.specs.Numbers.{areaSize, longestPiece, lastContext}
 use Rattle.rules.specs.Record.{_is_, phaseNumber, current}
-use Rattle.rules.specs.Refusals.{verdict}
+use Rattle.rules.specs.Refusals.{verdict, statusBytes}
 use Rattle.rules.specs.With.{_with-ticks_, _with-phase_, _with-staged_}
 use Rattle.rules.specs.Image.{imageOf}
 use Rattle.rules.specs.Transfer.{TransferCall, Start, Send, Finish, Query, transferChecks, transferAnswer, tickChange, receivedBytes}
-use Rattle.rules.specs.Refusals.{statusBytes}
 use Rattle.rules.specs.Transfers.{Answer}
 use Rattle.rules.specs.Demand3.{remains}
 use Rattle.rules.specs.declared.Refusal.the-variants.{R, Status}
@@ -26,7 +25,7 @@ use Rattle.rules.specs.declared.Phase.the-variants.{Idle, Receiving, Ver
 use Rattle.rules.specs.declared.Transfer.{Transfer}
 use Rattle.rules.proofs.Choice.{or-false, and-true}
 use Rattle.rules.proofs.Passed.{AllFalse, passed}
-use Rattle.rules.proofs.Parts.{Store, front, answerBy, storeVerdict, storeChange, storeAnswer, storeNext}
+use Rattle.rules.proofs.Split.{TransferPart, front, answerBy, partVerdict, partChange, partAnswer, partNext}
 use Rattle.rules.proofs.Through.{taken, transfer-mild}
 
 pub never : {X : Type 0} → true ≡ false → X
@@ -56,17 +55,17 @@ answer-remains (Refused (Status status ext)) n bytes answer e = e
 abbrev pub Kept : Answer → Type 0
 Kept got = remains (got .reply .verdict) ≡ true
 
-pub accepted-call : (s : Store) (a b : Bool) (x : TransferCall) (n : ℕ) (answer : List ℕ) → Kept (storeAnswer s a b x n answer) → storeVerdict s a b x ≡ Accepted
+pub accepted-call : (s : TransferPart) (a b : Bool) (x : TransferCall) (n : ℕ) (answer : List ℕ) → Kept (partAnswer s a b x n answer) → partVerdict s a b x ≡ Accepted
 accepted-call s a b x n answer k =
-    taken (storeVerdict s a b x) (transfer-mild (s .transfer) a b x)
-    (answer-remains (storeVerdict s a b x) n (statusBytes 0 0 ++ transferAnswer (s .transfer) x) answer k)
+    taken (partVerdict s a b x) (transfer-mild (s .transfer) a b x)
+    (answer-remains (partVerdict s a b x) n (statusBytes 0 0 ++ transferAnswer (s .transfer) x) answer k)
 
 -- an accepted call changes and answers what it says
-pub changes : (s : Store) (a b : Bool) (x : TransferCall) → storeVerdict s a b x ≡ Accepted → storeNext s a b x ≡ storeChange s x
+pub changes : (s : TransferPart) (a b : Bool) (x : TransferCall) → partVerdict s a b x ≡ Accepted → partNext s a b x ≡ partChange s x
 changes s a b x v = rw v
 
-pub replies : (s : Store) (a b : Bool) (x : TransferCall) (n : ℕ) (answer : List ℕ) → storeVerdict s a b x ≡ Accepted
-    → storeAnswer s a b x n answer ≡ answerBy Accepted n (statusBytes 0 0 ++ transferAnswer (s .transfer) x) answer
+pub replies : (s : TransferPart) (a b : Bool) (x : TransferCall) (n : ℕ) (answer : List ℕ) → partVerdict s a b x ≡ Accepted
+    → partAnswer s a b x n answer ≡ answerBy Accepted n (statusBytes 0 0 ++ transferAnswer (s .transfer) x) answer
 replies s a b x n answer v = rw v
 
 -- it is served, and its request has the table's length
@@ -74,7 +73,7 @@ pub record Served (a b : Bool) : Type 0 where
   pub served : a ≡ false
   pub fitting : b ≡ false
 
-pub was-served : (s : Store) (a b : Bool) (x : TransferCall) → storeVerdict s a b x ≡ Accepted → Served a b
+pub was-served : (s : TransferPart) (a b : Bool) (x : TransferCall) → partVerdict s a b x ≡ Accepted → Served a b
 was-served s a b x v =
     let w : AllFalse (front a b ++ transferChecks (s .transfer) x) = passed (front a b ++ transferChecks (s .transfer) x) v in
     record { served = w .0; fitting = w .1 .0 }
@@ -85,7 +84,7 @@ pub record StartOk (t : Transfer) : Type 0 where
   pub not-staged : (t .phase is Staged) ≡ false
   pub left : t .contexts ≡ lastContext → ⊥
 
-pub start-ok : (s : Store) (a b : Bool) → storeVerdict s a b Start ≡ Accepted → StartOk (s .transfer)
+pub start-ok : (s : TransferPart) (a b : Bool) → partVerdict s a b Start ≡ Accepted → StartOk (s .transfer)
 start-ok s a b v =
     let t : Transfer = s .transfer in
     let w : AllFalse (front a b ++ transferChecks t Start) = passed (front a b ++ transferChecks t Start) v in
@@ -99,7 +98,7 @@ pub record SendOk (t : Transfer) (context offset size : ℕ) (piece : List ℕ) 
   pub size-is : size ≡ length piece
   pub inside : offset + size ≤ areaSize
 
-pub send-ok : (s : Store) (a b : Bool) (context offset size : ℕ) (piece : List ℕ) → storeVerdict s a b (Send context offset size piece) ≡ Accepted
+pub send-ok : (s : TransferPart) (a b : Bool) (context offset size : ℕ) (piece : List ℕ) → partVerdict s a b (Send context offset size piece) ≡ Accepted
     → SendOk (s .transfer) context offset size piece
 send-ok s a b context offset size piece v =
     let t : Transfer = s .transfer in
@@ -121,7 +120,7 @@ pub record FinishOk (t : Transfer) (flag context : ℕ) : Type 0 where
   pub at : t .phase ≡ Receiving
   pub own : context ≡ current t
 
-pub finish-ok : (s : Store) (a b : Bool) (flag context : ℕ) → storeVerdict s a b (Finish flag context) ≡ Accepted → FinishOk (s .transfer) flag context
+pub finish-ok : (s : TransferPart) (a b : Bool) (flag context : ℕ) → partVerdict s a b (Finish flag context) ≡ Accepted → FinishOk (s .transfer) flag context
 finish-ok s a b flag context v =
     let t : Transfer = s .transfer in
     let w : AllFalse (front a b ++ transferChecks t (Finish flag context)) = passed (front a b ++ transferChecks t (Finish flag context)) v in
@@ -132,7 +131,7 @@ finish-ok s a b flag context v =
       own = eqb-true context (current t) (q .1);
     }
 
-pub query-ok : (s : Store) (a b : Bool) (context : ℕ) → storeVerdict s a b (Query context) ≡ Accepted → (s .transfer .phase is Receiving) ≡ false
+pub query-ok : (s : TransferPart) (a b : Bool) (context : ℕ) → partVerdict s a b (Query context) ≡ Accepted → (s .transfer .phase is Receiving) ≡ false
 query-ok s a b context v = passed (front a b ++ transferChecks (s .transfer) (Query context)) v .1 .1 .1 .0
 
 -- what a tick does: the four cases

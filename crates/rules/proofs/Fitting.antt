@@ -10,9 +10,9 @@ use borrow.Author.Tests.{eqb-true, leb-true, not-false}
 use Rattle.rules.specs.Tests.{_=?_}
 use Rattle.rules.specs.Table.{table, rowOf, fits?}
 use Rattle.rules.specs.Refusals.{verdict}
+use Rattle.rules.specs.Record.{Module}
 use Rattle.rules.specs.Module.{gateChecks}
 use Rattle.rules.specs.declared.Row.{Row}
-use Rattle.rules.specs.declared.Device.{Device}
 use Rattle.rules.specs.declared.Verdict.the-variants.{Accepted}
 use Rattle.rules.proofs.Rows.{looked-up}
 use Rattle.rules.proofs.Passed.{passed}
@@ -80,7 +80,7 @@ answers index = looked-up Answers index table
     ((lit≤ tt, lit≤ tt), ((lit≤ tt, lit≤ tt), ((lit≤ tt, lit≤ tt), ((lit≤ tt, lit≤ tt), ((lit≤ tt, lit≤ tt), ((lit≤ tt, lit≤ tt), ((lit≤ tt, lit≤ tt), ((lit≤ tt, lit≤ tt), ((lit≤ tt, lit≤ tt), ((lit≤ tt, lit≤ tt), ((lit≤ tt, lit≤ tt), ((lit≤ tt, lit≤ tt), ((lit≤ tt, lit≤ tt), (lit≤ tt, lit≤ tt))))))))))))))
 
 -- a request that passed the gate has the bytes that its function reads
-pub gate-fits : (d : Device) (area : List ℕ) (revision index : ℕ) (request answer : List ℕ)
-    → verdict (gateChecks d area revision index request answer) ≡ Accepted → Fitting (rowOf index .function) (length request)
-gate-fits d area revision index request answer e =
-    fitting index request (not-false (fits? (rowOf index) request) (passed (gateChecks d area revision index request answer) e .1 .1 .1 .1 .0))
+pub gate-fits : (m : Module) (revision index : ℕ) (request answer : List ℕ)
+    → verdict (gateChecks m revision index request answer) ≡ Accepted → Fitting (rowOf index .function) (length request)
+gate-fits m revision index request answer e =
+    fitting index request (not-false (fits? (rowOf index) request) (passed (gateChecks m revision index request answer) e .1 .1 .1 .1 .0))

@@ -3,11 +3,11 @@
 use mathlib.Core.Path.{_≡_, refl, sym, _∙_, ap, subst}
 use mathlib.Core.Bool.{Bool, true, false, false≢true}
 use mathlib.Core.List.{[], _∷_}
-use Rattle.rules.specs.Module.{Module}
+use Rattle.rules.specs.Record.{Module}
 use Rattle.rules.specs.History.{Plays, end, All, Same}
 use Rattle.rules.specs.Transfers.{Answer, machine, Exchange, History}
 use Rattle.rules.specs.Demand3.{remains, Sound}
-use Rattle.rules.proofs.Parts.{act, inner}
+use Rattle.rules.proofs.Split.{act, inner}
 use Rattle.rules.proofs.Through.{Through, shut}
 use Rattle.rules.specs.Demand1.{bufferTooShort}
 use Rattle.rules.proofs.Facts.{Kept}

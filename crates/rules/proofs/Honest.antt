@@ -23,7 +23,7 @@ use Rattle.rules.specs.declared.Row.{Row}
 use Rattle.rules.specs.declared.Function.{Function}
 use Rattle.rules.specs.declared.Function.the-variants as Function′
 use Rattle.rules.proofs.Choice.{and-true, if-both}
-use Rattle.rules.proofs.Parts.{Act, Transfers, Others, Ticks, Powers, act, actOf, unserved?, misfit?}
+use Rattle.rules.proofs.Split.{Act, Transfers, Others, Ticks, Powers, act, actOf, unserved?, misfit?}
 use Rattle.rules.proofs.Through.{kind-act}
 use Rattle.rules.proofs.Facts.{never}
 use Rattle.rules.proofs.KindOf.{started-act}

@@ -11,12 +11,11 @@ use Rattle.rules.specs.Tests.{if_then_else_, _=?_, _<?_, _≤?_, _implie
 use Rattle.rules.specs.Bytes.{zeros?}
 use Rattle.rules.specs.Numbers.{areaSize, verification, attemptLimit, lastContext}
 use Rattle.rules.specs.With.{_with-ticks_, _with-phase_, _with-received_}
-use Rattle.rules.specs.Record.{_is_, possible, possibleTransfer, possibleSecurity, possibleThresholds}
+use Rattle.rules.specs.Record.{_is_, possible, possibleTransfer, possibleSecurity, possibleThresholds, Module}
 use Rattle.rules.specs.Refusals.{Check, _gives_, verdict}
 use Rattle.rules.specs.Thresholds.{GetThreshold, SetThreshold}
 use Rattle.rules.specs.Transfer.{TransferCall, GetFwInfo, Start, Send, Finish, Query, tickChange}
 use Rattle.rules.specs.Security.{SecurityCall, GetSecurityState, SetPassphrase, Disable, Unlock, Freeze, securityChecks, wrong}
-use Rattle.rules.specs.Module.{Module}
 use Rattle.rules.specs.declared.Refusal.{Refusal}
 use Rattle.rules.specs.declared.Refusal.the-variants.{R, Status}
 use Rattle.rules.specs.declared.Verdict.{Verdict}
@@ -26,7 +25,7 @@ use Rattle.rules.specs.declared.Phase.the-variants.{Idle, Receiving, Ver
 use Rattle.rules.specs.declared.Transfer.{Transfer}
 use Rattle.rules.specs.declared.Security.{Security}
 use Rattle.rules.proofs.Choice.{or-false, and-true, and-6, if-both}
-use Rattle.rules.proofs.Parts.{Store, Rest, storeOf, restOf, RestCall, Masks, Limits, Locks, Nothing, Act, Transfers, Others, Ticks, Powers, storeVerdict, storeChange, storeAfter, storeTick, restAfter, restChange, restChecks, restNext, restPower, nexts}
+use Rattle.rules.proofs.Split.{TransferPart, Rest, partOf, restOf, RestCall, Masks, Limits, Locks, Nothing, Act, Transfers, Others, Ticks, Powers, partVerdict, partChange, partAfter, partTick, restAfter, restChange, restChecks, restNext, restPower, nexts}
 use Rattle.rules.proofs.Through.{mild}
 use Rattle.rules.proofs.Facts.{never, start-ok, send-ok, finish-ok, Tick, calm, counting, good, bad, tick-case}
 
@@ -38,7 +37,7 @@ PhaseOk Verifying t = (1 ≤ t .contexts) × (1 ≤ t .ticks) × (t .ticks ≤ v
 PhaseOk Staged t = (1 ≤ t .contexts) × (t .ticks ≡ 0)
 PhaseOk Failed t = (1 ≤ t .contexts) × (t .ticks ≡ 0) × (t .staged ≡ 0)
 
-pub record StoreOk (s : Store) : Type 0 where
+pub record PartOk (s : TransferPart) : Type 0 where
   pub within : s .transfer .received ≤ areaSize
   pub in-phase : PhaseOk (s .transfer .phase) (s .transfer)
   pub size : length (s .area) ≡ areaSize
@@ -87,51 +86,51 @@ start-from Failed t h a b c = (h .1, h .2)
 at-phase : (p : Phase) (t : Transfer) → t .phase ≡ p → PhaseOk (t .phase) t → PhaseOk p t
 at-phase p t e h = subst (λ (q : Phase). PhaseOk q t) e h
 
-store-change : (s : Store) (a b : Bool) (x : TransferCall) → storeVerdict s a b x ≡ Accepted → StoreOk s → StoreOk (storeChange s x)
-store-change s a b GetFwInfo v w = w
-store-change s a b Start v w =
+part-change : (s : TransferPart) (a b : Bool) (x : TransferCall) → partVerdict s a b x ≡ Accepted → PartOk s → PartOk (partChange s x)
+part-change s a b GetFwInfo v w = w
+part-change s a b Start v w =
     let k = start-ok s a b v in
     let q = start-from (s .transfer .phase) (s .transfer) (w .in-phase) (k .not-receiving) (k .not-verifying) (k .not-staged) in
     record { within = omega arith; in-phase = (omega arith, q .0, q .1); size = w .size }
-store-change s a b (Send context offset size piece) v w =
+part-change s a b (Send context offset size piece) v w =
     let k = send-ok s a b context offset size piece v in
     let q = at-phase Receiving (s .transfer) (k .at) (w .in-phase) in
     record {
       within = omega (arith, k .inside, k .here);
-      in-phase = subst (λ (z : Phase). PhaseOk z (storeChange s (Send context offset size piece) .transfer)) (sym (k .at)) q;
+      in-phase = subst (λ (z : Phase). PhaseOk z (partChange s (Send context offset size piece) .transfer)) (sym (k .at)) q;
       size = simp (length-append, length-take, length-drop) (omega (arith, w .size, k .inside, k .size-is));
     }
-store-change s a b (Finish flag context) v w = go (flag =? 0)
+part-change s a b (Finish flag context) v w = go (flag =? 0)
   where
     q : PhaseOk Receiving (s .transfer)
     q = at-phase Receiving (s .transfer) (finish-ok s a b flag context v .at) (w .in-phase)
 
-    go : (c : Bool) → StoreOk (record { transfer = if c then s .transfer with-phase Verifying with-ticks verification else (s .transfer with-phase Idle with-received 0); area = s .area })
+    go : (c : Bool) → PartOk (record { transfer = if c then s .transfer with-phase Verifying with-ticks verification else (s .transfer with-phase Idle with-received 0); area = s .area })
     go true = record { within = w .within; in-phase = (q .0, omega arith, omega arith, q .2); size = w .size }
     go false = record { within = omega arith; in-phase = (refl, q .1, q .2); size = w .size }
-store-change s a b (Query context) v w = w
+part-change s a b (Query context) v w = w
 
 -- what holds of a store and of its change by an accepted call holds after the call
-pub store-when : (P : Store → Type 0) (v : Verdict) (s : Store) (x : TransferCall) → P s → (v ≡ Accepted → P (storeChange s x)) → P (storeAfter v s x)
-store-when P Accepted s x w f = f refl
-store-when P (Refused refusal) s x w f = w
+pub part-when : (P : TransferPart → Type 0) (v : Verdict) (s : TransferPart) (x : TransferCall) → P s → (v ≡ Accepted → P (partChange s x)) → P (partAfter v s x)
+part-when P Accepted s x w f = f refl
+part-when P (Refused refusal) s x w f = w
 
-store-tick : (s : Store) → StoreOk s → Tick (s .transfer) (s .area) → StoreOk (storeTick s)
-store-tick s w (calm n e) = subst (λ (t : Transfer). StoreOk (record { transfer = t; area = s .area })) (sym e) w
-store-tick s w (counting p l e) =
+part-tick : (s : TransferPart) → PartOk s → Tick (s .transfer) (s .area) → PartOk (partTick s)
+part-tick s w (calm n e) = subst (λ (t : Transfer). PartOk (record { transfer = t; area = s .area })) (sym e) w
+part-tick s w (counting p l e) =
     let h = at-phase Verifying (s .transfer) p (w .in-phase) in
-    subst (λ (t : Transfer). StoreOk (record { transfer = t; area = s .area })) (sym e)
+    subst (λ (t : Transfer). PartOk (record { transfer = t; area = s .area })) (sym e)
     (record {
       within = w .within;
       in-phase = subst (λ (z : Phase). PhaseOk z (s .transfer with-ticks (s .transfer .ticks - 1))) (sym p) (h .0, omega arith, omega arith, h .3);
       size = w .size;
     })
-store-tick s w (good version p l i e) =
+part-tick s w (good version p l i e) =
     let h = at-phase Verifying (s .transfer) p (w .in-phase) in
-    subst (λ (t : Transfer). StoreOk (record { transfer = t; area = s .area })) (sym e) (record { within = w .within; in-phase = (h .0, refl); size = w .size })
-store-tick s w (bad p l i e) =
+    subst (λ (t : Transfer). PartOk (record { transfer = t; area = s .area })) (sym e) (record { within = w .within; in-phase = (h .0, refl); size = w .size })
+part-tick s w (bad p l i e) =
     let h = at-phase Verifying (s .transfer) p (w .in-phase) in
-    subst (λ (t : Transfer). StoreOk (record { transfer = t; area = s .area })) (sym e) (record { within = w .within; in-phase = (h .0, refl, h .3); size = w .size })
+    subst (λ (t : Transfer). PartOk (record { transfer = t; area = s .area })) (sym e) (record { within = w .within; in-phase = (h .0, refl, h .3); size = w .size })
 
 -- the rest
 pub record RestOk (r : Rest) : Type 0 where
@@ -208,18 +207,18 @@ rest-next r a b x w =
 
 -- the whole
 pub record Ok (m : Module) : Type 0 where
-  pub stores : StoreOk (storeOf m)
+  pub part : PartOk (partOf m)
   pub rests : RestOk (restOf m)
 
 pub ok-next : (m : Module) (a : Act) → Ok m → Ok (nexts m a)
 unfolding restPower
 ok-next m (Transfers host a b x n answer) w =
-    record { stores = store-when StoreOk (storeVerdict (storeOf m) a b x) (storeOf m) x (w .stores) (λ v. store-change (storeOf m) a b x v (w .stores)); rests = w .rests }
-ok-next m (Others a b x n answer) w = record { stores = w .stores; rests = rest-next (restOf m) a b x (w .rests) }
-ok-next m Ticks w = record { stores = store-tick (storeOf m) (w .stores) (tick-case (m .device .transfer) (m .area)); rests = w .rests }
+    record { part = part-when PartOk (partVerdict (partOf m) a b x) (partOf m) x (w .part) (λ v. part-change (partOf m) a b x v (w .part)); rests = w .rests }
+ok-next m (Others a b x n answer) w = record { part = w .part; rests = rest-next (restOf m) a b x (w .rests) }
+ok-next m Ticks w = record { part = part-tick (partOf m) (w .part) (tick-case (m .device .transfer) (m .area)); rests = w .rests }
 ok-next m Powers w =
     record {
-      stores = record { within = omega arith; in-phase = (refl, refl, refl); size = w .stores .size };
+      part = record { within = omega arith; in-phase = (refl, refl, refl); size = w .part .size };
       rests = record {
         locks = relock (m .device .security .enabled);
         phrase = w .rests .phrase;
@@ -233,7 +232,7 @@ pub ok-possible : (m : Module) → Ok m → possible (m .device) ≡ true
 unfolding possible possibleTransfer possibleSecurity possibleThresholds
 ok-possible m w =
     rw (
-      tested (m .device .transfer .phase) (m .device .transfer) (w .stores .within) (w .stores .in-phase),
+      tested (m .device .transfer .phase) (m .device .transfer) (w .part .within) (w .part .in-phase),
       w .rests .locks,
       w .rests .phrase,
       le-leb (m .device .security .attempts) attemptLimit (w .rests .tries),
@@ -252,7 +251,7 @@ possible-ok m e l =
     let p = and-true (d .security .locked implies d .security .enabled) (zeros? (d .security .passphrase) unless d .security .enabled) (q .0) in
     let h = and-true (d .thresholds .enable <? 8) (d .thresholds .spare ≤? 100) (three .1) in
     record {
-      stores = record { within = t .0; in-phase = t .1; size = l };
+      part = record { within = t .0; in-phase = t .1; size = l };
       rests = record {
         locks = p .0;
         phrase = p .1;
@@ -263,7 +262,7 @@ possible-ok m e l =
     }
 
 -- the contexts given out never exceed the last one
-fit-change : (s : Store) (a b : Bool) (x : TransferCall) → storeVerdict s a b x ≡ Accepted → s .transfer .contexts ≤ lastContext → storeChange s x .transfer .contexts ≤ lastContext
+fit-change : (s : TransferPart) (a b : Bool) (x : TransferCall) → partVerdict s a b x ≡ Accepted → s .transfer .contexts ≤ lastContext → partChange s x .transfer .contexts ≤ lastContext
 fit-change s a b GetFwInfo v w = w
 fit-change s a b Start v w = let n = start-ok s a b v .left in omega arith
 fit-change s a b (Send context offset size piece) v w = w
@@ -279,7 +278,7 @@ tick-contexts t area (bad p l i e) = ap (λ (u : Transfer). u .contexts) e
 
 pub fit-next : (m : Module) (a : Act) → m .device .transfer .contexts ≤ lastContext → nexts m a .device .transfer .contexts ≤ lastContext
 fit-next m (Transfers host a b x n answer) w =
-    store-when (λ (s : Store). s .transfer .contexts ≤ lastContext) (storeVerdict (storeOf m) a b x) (storeOf m) x w (λ v. fit-change (storeOf m) a b x v w)
+    part-when (λ (s : TransferPart). s .transfer .contexts ≤ lastContext) (partVerdict (partOf m) a b x) (partOf m) x w (λ v. fit-change (partOf m) a b x v w)
 fit-next m (Others a b x n answer) w = w
 fit-next m Ticks w = rw (tick-contexts (m .device .transfer) (m .area) (tick-case (m .device .transfer) (m .area))) w
 fit-next m Powers w = omega arith

@@ -14,7 +14,7 @@ use Rattle.rules.specs.Transfers.{Answer, Kind, Started, Sent, Finished,
 use Rattle.rules.specs.declared.Refusal.the-variants.{R, Status}
 use Rattle.rules.specs.declared.Verdict.{Verdict}
 use Rattle.rules.specs.declared.Verdict.the-variants.{Accepted, Refused}
-use Rattle.rules.proofs.Parts.{Store, Act, Transfers, Others, Ticks, Powers, answerBy, storeVerdict, storeAnswer, actKind}
+use Rattle.rules.proofs.Split.{TransferPart, Act, Transfers, Others, Ticks, Powers, answerBy, partVerdict, partAnswer, actKind}
 use Rattle.rules.proofs.Facts.{never, replies, start-ok}
 
 -- the answer is no refusal
@@ -32,11 +32,11 @@ accepted-by (Refused (R number)) n bytes answer e = never e
 accepted-by (Refused (Status status ext)) n bytes answer e = never e
 
 -- where the answer is no refusal the call was accepted, and the other way round
-pub good-accepted : (s : Store) (a b : Bool) (x : TransferCall) (n : ℕ) (answer : List ℕ) (got : Answer) → storeAnswer s a b x n answer ≡ got → Good-answer got → storeVerdict s a b x ≡ Accepted
+pub good-accepted : (s : TransferPart) (a b : Bool) (x : TransferCall) (n : ℕ) (answer : List ℕ) (got : Answer) → partAnswer s a b x n answer ≡ got → Good-answer got → partVerdict s a b x ≡ Accepted
 good-accepted s a b x n answer got p g =
-    accepted-by (storeVerdict s a b x) n (statusBytes 0 0 ++ transferAnswer (s .transfer) x) answer (ap (λ (z : Answer). refused? (z .reply .verdict)) p ∙ g)
+    accepted-by (partVerdict s a b x) n (statusBytes 0 0 ++ transferAnswer (s .transfer) x) answer (ap (λ (z : Answer). refused? (z .reply .verdict)) p ∙ g)
 
-pub accepted-good : (s : Store) (a b : Bool) (x : TransferCall) (n : ℕ) (answer : List ℕ) (got : Answer) → storeAnswer s a b x n answer ≡ got → storeVerdict s a b x ≡ Accepted → Good-answer got
+pub accepted-good : (s : TransferPart) (a b : Bool) (x : TransferCall) (n : ℕ) (answer : List ℕ) (got : Answer) → partAnswer s a b x n answer ≡ got → partVerdict s a b x ≡ Accepted → Good-answer got
 accepted-good s a b x n answer got p v = ap (λ (z : Answer). refused? (z .reply .verdict)) (sym p ∙ replies s a b x n answer v)
 
 -- no Start
@@ -112,7 +112,7 @@ finished-act Powers got host context flag e = let z : _≡_ {A = ℕ} 0 1 = cc i
 carries-back : (n : ℕ) (answer : List ℕ) → n ≤ lastContext → numberAt 4 4 (answerAfter (statusBytes 0 0 ++ le 4 n) answer) ≡ n
 carries-back n answer l = omega arith
 
-pub given-number : (s : Store) (a b : Bool) (n : ℕ) (answer : List ℕ) (got : Answer) → storeAnswer s a b Start n answer ≡ got → storeVerdict s a b Start ≡ Accepted
+pub given-number : (s : TransferPart) (a b : Bool) (n : ℕ) (answer : List ℕ) (got : Answer) → partAnswer s a b Start n answer ≡ got → partVerdict s a b Start ≡ Accepted
     → s .transfer .contexts ≤ lastContext → numberAt 4 4 (got .buffer) ≡ s .transfer .contexts + 1
 given-number s a b n answer got p v l =
     let k = start-ok s a b v .left in

@@ -4,7 +4,7 @@ pub mod Claim
 pub mod Choice
 pub mod Passed
 pub mod Accepted
-pub mod NoR
+pub mod Past
 pub mod Rows
 pub mod Fitting
 pub mod Told
@@ -15,7 +15,7 @@ pub mod Joining
 pub mod Swapping
 pub mod Struck
 pub mod Area
-pub mod Parts
+pub mod Split
 pub mod Through
 pub mod Facts
 pub mod Keeps

@@ -6,14 +6,14 @@ use mathlib.Core.Logic.{_⊎_, inl, inr}
 use mathlib.Core.Bool.{true, false, false≢true}
 use mathlib.Core.List.{[], _∷_, _++_}
 use Rattle.rules.specs.Transfer.{GetFwInfo, Start, Send, Finish, Query}
-use Rattle.rules.specs.Module.{Module}
+use Rattle.rules.specs.Record.{Module}
 use Rattle.rules.specs.History.{Plays, end, All, Same}
 use Rattle.rules.specs.Transfers.{Answer, machine, Exchange, History, Kind, Started, Sent, Finished, Ticked, Powered, Other, kindOf}
 use Rattle.rules.specs.Sends.{isSendOf, ownSend, ownSends, others, FinishedIn}
 use Rattle.rules.specs.Moves.{moved, ByMoves, as-it-is, one-more, isFinishOf, itsFinish}
 use Rattle.rules.specs.Demand3.{Sound, Move}
 use Rattle.rules.proofs.Joining.{all-left, all-right, all-join, all-only, all-except, plays-left, plays-right, same-under}
-use Rattle.rules.proofs.Parts.{Act, Transfers, Others, Ticks, Powers, act, inner, actKind}
+use Rattle.rules.proofs.Split.{Act, Transfers, Others, Ticks, Powers, act, inner, actKind}
 use Rattle.rules.proofs.Through.{kind-act}
 use Rattle.rules.proofs.Gate.{Remains, Roomy, Inward, inwards, sound-inner, same-outward}
 use Rattle.rules.proofs.Swap.{FreeAct, Free}

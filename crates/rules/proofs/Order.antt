@@ -10,10 +10,9 @@ use lib.Seq.{take-at}
 use Rattle.rules.specs.Tests.{if_then_else_, _=?_}
 use Rattle.rules.specs.Bytes.{numberAt, splice}
 use Rattle.rules.specs.Numbers.{areaSize}
-use Rattle.rules.specs.Record.{_is_, current}
+use Rattle.rules.specs.Record.{_is_, current, Module}
 use Rattle.rules.specs.Refusals.{refused?}
 use Rattle.rules.specs.Transfer.{TransferCall, GetFwInfo, Start, Send, Finish, Query, receivedBytes}
-use Rattle.rules.specs.Module.{Module}
 use Rattle.rules.specs.History.{Plays, end, All}
 use Rattle.rules.specs.Transfers.{Answer, Exchange, History, Kind, Started, Sent, Finished, Ticked, Powered, Other, kindOf, Open, none, by, bytesSoFar, withPiece, openAfter, ContextIs, InOrder, AllInOrder}
 use Rattle.rules.specs.Hosts.{AnsweredTo}
@@ -22,7 +21,7 @@ use Rattle.rules.specs.declared.Phase.{Phase}
 use Rattle.rules.specs.declared.Phase.the-variants.{Receiving, Verifying}
 use Rattle.rules.specs.declared.Transfer.{Transfer}
 use Rattle.rules.proofs.Choice.{if-both}
-use Rattle.rules.proofs.Parts.{Store, storeOf, Act, Transfers, Others, Ticks, Powers, act, storeChange, storeNext, storeTick, answers, nexts, inner, actKind}
+use Rattle.rules.proofs.Split.{TransferPart, partOf, Act, Transfers, Others, Ticks, Powers, act, partChange, partNext, partTick, answers, nexts, inner, actKind}
 use Rattle.rules.proofs.Through.{kind-act}
 use Rattle.rules.proofs.Facts.{never, Kept, accepted-call, changes, was-served, SendOk, send-ok, finish-ok, Tick, calm, counting, good, bad, tick-case}
 use Rattle.rules.proofs.Keeps.{tick-contexts}
@@ -34,14 +33,14 @@ use Rattle.rules.proofs.Inside.{given, Begun, begun}
 use Rattle.rules.proofs.Honest.{UsesAct}
 
 -- the transfer with this context is receiving, and has these bytes
-pub record Holding (context : ℕ) (bytes : List ℕ) (s : Store) : Type 0 where
+pub record Holding (context : ℕ) (bytes : List ℕ) (s : TransferPart) : Type 0 where
   pub at : s .transfer .phase ≡ Receiving
   pub ctx : current (s .transfer) ≡ context
   pub count : s .transfer .received ≡ length bytes
   pub held : receivedBytes (s .transfer) (s .area) ≡ bytes
 
 -- what is open fits the record
-abbrev pub Fits : Open → Store → Type 0
+abbrev pub Fits : Open → TransferPart → Type 0
 Fits none s = (s .transfer .phase is Receiving) ≡ false
 Fits (by host context bytes) s = Holding context bytes s
 
@@ -60,7 +59,7 @@ UsesKind past Powered = Unit {0}
 UsesKind past Other = Unit {0}
 
 -- what an exchange that remains does, by its kind: it comes in order, what is open fits the record after it, and only a Start gives a context
-pub record Goes (f : Act) (o : Open) (k : Kind) (s u : Store) : Type 0 where
+pub record Goes (f : Act) (o : Open) (k : Kind) (s u : TransferPart) : Type 0 where
   pub order : InOrder o k
   pub fits : Fits (openAfter o k) u
   pub same-given : NoStart k → given u ≡ given s
@@ -72,25 +71,25 @@ written area offset piece l =
     ap (take (offset + length piece)) (sym (append-assoc (take offset area) piece (drop (offset + length piece) area)))
     ∙ take-at (take offset area ++ piece) (drop (offset + length piece) area) (offset + length piece) (simp (length-append, length-take) (omega arith))
 
-shut : (o : Open) (s : Store) → Fits o s → (s .transfer .phase is Receiving) ≡ false → o ≡ none
+shut : (o : Open) (s : TransferPart) → Fits o s → (s .transfer .phase is Receiving) ≡ false → o ≡ none
 shut none s f n = refl
 shut (by host context bytes) s f n = never (sym (ap (λ (p : Phase). p is Receiving) (f .at)) ∙ n)
 
-in-open : (o : Open) (s : Store) (context : ℕ) → Fits o s → s .transfer .phase ≡ Receiving → context ≡ current (s .transfer) → ContextIs o context
+in-open : (o : Open) (s : TransferPart) (context : ℕ) → Fits o s → s .transfer .phase ≡ Receiving → context ≡ current (s .transfer) → ContextIs o context
 in-open none s context f p g = never (sym (ap (λ (q : Phase). q is Receiving) p) ∙ f)
 in-open (by host c bytes) s context f p g = g ∙ f .ctx
 
-count-open : (o : Open) (s : Store) → Fits o s → s .transfer .phase ≡ Receiving → s .transfer .received ≡ length (bytesSoFar o)
+count-open : (o : Open) (s : TransferPart) → Fits o s → s .transfer .phase ≡ Receiving → s .transfer .received ≡ length (bytesSoFar o)
 count-open none s f p = never (sym (ap (λ (q : Phase). q is Receiving) p) ∙ f)
 count-open (by host context bytes) s f p = f .count
 
 -- where the record is receiving, the received bytes are those of the open transfer
-pub bytes-open : (o : Open) (s : Store) → Fits o s → s .transfer .phase ≡ Receiving → receivedBytes (s .transfer) (s .area) ≡ bytesSoFar o
+pub bytes-open : (o : Open) (s : TransferPart) → Fits o s → s .transfer .phase ≡ Receiving → receivedBytes (s .transfer) (s .area) ≡ bytesSoFar o
 bytes-open none s f p = never (sym (ap (λ (q : Phase). q is Receiving) p) ∙ f)
 bytes-open (by host context bytes) s f p = f .held
 
-send-fits : (o : Open) (s : Store) (context offset size : ℕ) (piece : List ℕ) → length (s .area) ≡ areaSize → Fits o s → SendOk (s .transfer) context offset size piece
-    → Fits (withPiece o piece) (storeChange s (Send context offset size piece))
+send-fits : (o : Open) (s : TransferPart) (context offset size : ℕ) (piece : List ℕ) → length (s .area) ≡ areaSize → Fits o s → SendOk (s .transfer) context offset size piece
+    → Fits (withPiece o piece) (partChange s (Send context offset size piece))
 send-fits none s context offset size piece long f k = never (sym (ap (λ (q : Phase). q is Receiving) (k .at)) ∙ f)
 send-fits (by starter c bytes) s context offset size piece long f k =
     record { at = k .at; ctx = f .ctx; count = omega (arith, length-append bytes piece, f .count, k .size-is); held = joined }
@@ -107,89 +106,89 @@ send-fits (by starter c bytes) s context offset size piece long f k =
         ∙ ap (λ (z : List ℕ). z ++ piece) (f .held)
 
 -- a tick
-tick-fits : (o : Open) (s : Store) → Fits o s → Tick (s .transfer) (s .area) → Fits o (storeTick s)
-tick-fits (by host context bytes) s f t = subst (λ (u : Store). Holding context bytes u) (sym (still s (ap (λ (q : Phase). q is Verifying) (f .at)))) f
+tick-fits : (o : Open) (s : TransferPart) → Fits o s → Tick (s .transfer) (s .area) → Fits o (partTick s)
+tick-fits (by host context bytes) s f t = subst (λ (u : TransferPart). Holding context bytes u) (sym (still s (ap (λ (q : Phase). q is Verifying) (f .at)))) f
 tick-fits none s f (calm n e) = ap (λ (t : Transfer). t .phase is Receiving) e ∙ f
 tick-fits none s f (counting p l e) = ap (λ (t : Transfer). t .phase is Receiving) e ∙ f
 tick-fits none s f (good version p l i e) = ap (λ (t : Transfer). t .phase is Receiving) e
 tick-fits none s f (bad p l i e) = ap (λ (t : Transfer). t .phase is Receiving) e
 
 -- an act that is nothing to the transfers, and leaves what they use
-goes-other : (f : Act) (o : Open) (s u : Store) → Fits o s → u ≡ s → Goes f o Other s u
-goes-other f o s u w q = subst (λ (z : Store). Goes f o Other s z) (sym q) (record { order = tt; fits = w; same-given = λ n. refl; used = λ past v. tt })
+goes-other : (f : Act) (o : Open) (s u : TransferPart) → Fits o s → u ≡ s → Goes f o Other s u
+goes-other f o s u w q = subst (λ (z : TransferPart). Goes f o Other s z) (sym q) (record { order = tt; fits = w; same-given = λ n. refl; used = λ past v. tt })
 
 -- a kind that is chosen by acceptance
 pub chosen : (got : Answer) (k : Kind) → refused? (got .reply .verdict) ≡ false → (if refused? (got .reply .verdict) then Other else k) ≡ k
 chosen got k e = rw e
 
-goes-act : (x : Exchange) (o : Open) (m : Module) (f : Act) → act (x .event) ≡ f → kindOf x ≡ actKind f (x .got) → Sound m → Fits o (storeOf m) → answers m f ≡ x .got → Kept (x .got)
-    → Goes f o (actKind f (x .got)) (storeOf m) (storeOf (nexts m f))
+goes-act : (x : Exchange) (o : Open) (m : Module) (f : Act) → act (x .event) ≡ f → kindOf x ≡ actKind f (x .got) → Sound m → Fits o (partOf m) → answers m f ≡ x .got → Kept (x .got)
+    → Goes f o (actKind f (x .got)) (partOf m) (partOf (nexts m f))
 goes-act x o m (Transfers host a b GetFwInfo n answer) is-f e sound w p k =
-    goes-other (Transfers host a b GetFwInfo n answer) o (storeOf m) (storeNext (storeOf m) a b GetFwInfo) w
-    (changes (storeOf m) a b GetFwInfo (accepted-call (storeOf m) a b GetFwInfo n answer (ap (λ (z : Answer). remains (z .reply .verdict)) p ∙ k)))
+    goes-other (Transfers host a b GetFwInfo n answer) o (partOf m) (partNext (partOf m) a b GetFwInfo) w
+    (changes (partOf m) a b GetFwInfo (accepted-call (partOf m) a b GetFwInfo n answer (ap (λ (z : Answer). remains (z .reply .verdict)) p ∙ k)))
 goes-act x o m (Transfers host a b Start n answer) is-f e sound w p k =
     let f : Act = Transfers host a b Start n answer in
-    let v = accepted-call (storeOf m) a b Start n answer (ap (λ (z : Answer). remains (z .reply .verdict)) p ∙ k) in
+    let v = accepted-call (partOf m) a b Start n answer (ap (λ (z : Answer). remains (z .reply .verdict)) p ∙ k) in
     let c : ℕ = numberAt 4 4 (x .got .buffer) in
-    let q = chosen (x .got) (Started host c) (accepted-good (storeOf m) a b Start n answer (x .got) p v) in
+    let q = chosen (x .got) (Started host c) (accepted-good (partOf m) a b Start n answer (x .got) p v) in
     let b : Begun m x host c = begun m x host c sound (e ∙ q) (subst (λ (z : Act). answers m z ≡ x .got) (sym is-f) p) in
-    let s : storeOf (nexts m f) ≡ storeChange (storeOf m) Start = ap (λ (z : Act). storeOf (nexts m z)) (sym is-f) ∙ b .store-is in
-    subst (λ (z : Kind). Goes f o z (storeOf m) (storeOf (nexts m f))) (sym q)
-    (subst (λ (z : Store). Goes f o (Started host c) (storeOf m) z) (sym s)
+    let s : partOf (nexts m f) ≡ partChange (partOf m) Start = ap (λ (z : Act). partOf (nexts m z)) (sym is-f) ∙ b .part-is in
+    subst (λ (z : Kind). Goes f o z (partOf m) (partOf (nexts m f))) (sym q)
+    (subst (λ (z : TransferPart). Goes f o (Started host c) (partOf m) z) (sym s)
     (record {
-      order = shut o (storeOf m) w (b .allowed .not-receiving);
+      order = shut o (partOf m) w (b .allowed .not-receiving);
       fits = record { at = refl; ctx = sym (b .next-number); count = refl; held = refl };
       same-given = λ z. absurd z;
       used = λ past u. tt;
     }))
 goes-act x o m (Transfers host a b (Send context offset size piece) n answer) is-f e sound w p k =
     let call : TransferCall = Send context offset size piece in
-    let v = accepted-call (storeOf m) a b call n answer (ap (λ (z : Answer). remains (z .reply .verdict)) p ∙ k) in
-    let q = chosen (x .got) (Sent host context offset piece) (accepted-good (storeOf m) a b call n answer (x .got) p v) in
-    let ok = send-ok (storeOf m) a b context offset size piece v in
-    subst (λ (z : Kind). Goes (Transfers host a b call n answer) o z (storeOf m) (storeNext (storeOf m) a b call)) (sym q)
-    (subst (λ (z : Store). Goes (Transfers host a b call n answer) o (Sent host context offset piece) (storeOf m) z) (sym (changes (storeOf m) a b call v))
+    let v = accepted-call (partOf m) a b call n answer (ap (λ (z : Answer). remains (z .reply .verdict)) p ∙ k) in
+    let q = chosen (x .got) (Sent host context offset piece) (accepted-good (partOf m) a b call n answer (x .got) p v) in
+    let ok = send-ok (partOf m) a b context offset size piece v in
+    subst (λ (z : Kind). Goes (Transfers host a b call n answer) o z (partOf m) (partNext (partOf m) a b call)) (sym q)
+    (subst (λ (z : TransferPart). Goes (Transfers host a b call n answer) o (Sent host context offset piece) (partOf m) z) (sym (changes (partOf m) a b call v))
     (record {
-      order = (in-open o (storeOf m) context w (ok .at) (ok .own), ok .here ∙ count-open o (storeOf m) w (ok .at));
-      fits = send-fits o (storeOf m) context offset size piece (sound .area-size) w ok;
+      order = (in-open o (partOf m) context w (ok .at) (ok .own), ok .here ∙ count-open o (partOf m) w (ok .at));
+      fits = send-fits o (partOf m) context offset size piece (sound .area-size) w ok;
       same-given = λ z. refl;
-      used = λ past u. u (was-served (storeOf m) a b call v .fitting);
+      used = λ past u. u (was-served (partOf m) a b call v .fitting);
     }))
 goes-act x o m (Transfers host a b (Finish flag context) n answer) is-f e sound w p k =
     let call : TransferCall = Finish flag context in
-    let v = accepted-call (storeOf m) a b call n answer (ap (λ (z : Answer). remains (z .reply .verdict)) p ∙ k) in
-    let q = chosen (x .got) (Finished host context flag) (accepted-good (storeOf m) a b call n answer (x .got) p v) in
-    let ok = finish-ok (storeOf m) a b flag context v in
-    subst (λ (z : Kind). Goes (Transfers host a b call n answer) o z (storeOf m) (storeNext (storeOf m) a b call)) (sym q)
-    (subst (λ (z : Store). Goes (Transfers host a b call n answer) o (Finished host context flag) (storeOf m) z) (sym (changes (storeOf m) a b call v))
+    let v = accepted-call (partOf m) a b call n answer (ap (λ (z : Answer). remains (z .reply .verdict)) p ∙ k) in
+    let q = chosen (x .got) (Finished host context flag) (accepted-good (partOf m) a b call n answer (x .got) p v) in
+    let ok = finish-ok (partOf m) a b flag context v in
+    subst (λ (z : Kind). Goes (Transfers host a b call n answer) o z (partOf m) (partNext (partOf m) a b call)) (sym q)
+    (subst (λ (z : TransferPart). Goes (Transfers host a b call n answer) o (Finished host context flag) (partOf m) z) (sym (changes (partOf m) a b call v))
     (record {
-      order = in-open o (storeOf m) context w (ok .at) (ok .own);
+      order = in-open o (partOf m) context w (ok .at) (ok .own);
       fits = if-both (λ (t : Transfer). (t .phase is Receiving) ≡ false) (flag =? 0) refl refl;
       same-given = λ z. if-both (λ (t : Transfer). t .contexts ≡ m .device .transfer .contexts) (flag =? 0) refl refl;
-      used = λ past u. u (was-served (storeOf m) a b call v .fitting);
+      used = λ past u. u (was-served (partOf m) a b call v .fitting);
     }))
 goes-act x o m (Transfers host a b (Query context) n answer) is-f e sound w p k =
-    goes-other (Transfers host a b (Query context) n answer) o (storeOf m) (storeNext (storeOf m) a b (Query context)) w
-    (changes (storeOf m) a b (Query context) (accepted-call (storeOf m) a b (Query context) n answer (ap (λ (z : Answer). remains (z .reply .verdict)) p ∙ k)))
-goes-act x o m (Others a b y n answer) is-f e sound w p k = goes-other (Others a b y n answer) o (storeOf m) (storeOf m) w refl
+    goes-other (Transfers host a b (Query context) n answer) o (partOf m) (partNext (partOf m) a b (Query context)) w
+    (changes (partOf m) a b (Query context) (accepted-call (partOf m) a b (Query context) n answer (ap (λ (z : Answer). remains (z .reply .verdict)) p ∙ k)))
+goes-act x o m (Others a b y n answer) is-f e sound w p k = goes-other (Others a b y n answer) o (partOf m) (partOf m) w refl
 goes-act x o m Ticks is-f e sound w p k =
     let t = tick-case (m .device .transfer) (m .area) in
-    record { order = tt; fits = tick-fits o (storeOf m) w t; same-given = λ z. tick-contexts (m .device .transfer) (m .area) t; used = λ past u. tt }
+    record { order = tt; fits = tick-fits o (partOf m) w t; same-given = λ z. tick-contexts (m .device .transfer) (m .area) t; used = λ past u. tt }
 goes-act x o m Powers is-f e sound w p k = record { order = tt; fits = refl; same-given = λ z. refl; used = λ past u. tt }
 
-pub goes : (x : Exchange) (o : Open) (m : Module) → Sound m → Fits o (storeOf m) → inner .answer m (x .event) ≡ x .got → Kept (x .got)
-    → Goes (act (x .event)) o (kindOf x) (storeOf m) (storeOf (inner .next m (x .event)))
+pub goes : (x : Exchange) (o : Open) (m : Module) → Sound m → Fits o (partOf m) → inner .answer m (x .event) ≡ x .got → Kept (x .got)
+    → Goes (act (x .event)) o (kindOf x) (partOf m) (partOf (inner .next m (x .event)))
 goes x o m sound w p k =
-    subst (λ (z : Kind). Goes (act (x .event)) o z (storeOf m) (storeOf (inner .next m (x .event)))) (sym (kind-act x)) (goes-act x o m (act (x .event)) refl (kind-act x) sound w p k)
+    subst (λ (z : Kind). Goes (act (x .event)) o z (partOf m) (partOf (inner .next m (x .event)))) (sym (kind-act x)) (goes-act x o m (act (x .event)) refl (kind-act x) sound w p k)
 
 -- what remains stands in order; what is open at its end fits the record
-pub orders : (o : Open) (m : Module) (h : History) → Sound m → Fits o (storeOf m) → Plays inner m h → All Remains h → AllInOrder o h
+pub orders : (o : Open) (m : Module) (h : History) → Sound m → Fits o (partOf m) → Plays inner m h → All Remains h → AllInOrder o h
 orders o m [] s w p k = tt
 orders o m (x ∷ h) s w p k =
     let g = goes x o m s w (p .0) (k .0) in
     (g .order, orders (openAfter o (kindOf x)) (inner .next m (x .event)) h (sound-act m (act (x .event)) s) (g .fits) (p .1) (k .1))
 
-pub fits-at : (o : Open) (m : Module) (h : History) → Sound m → Fits o (storeOf m) → Plays inner m h → All Remains h → Fits (openAtEnd o h) (storeOf (end inner m h))
+pub fits-at : (o : Open) (m : Module) (h : History) → Sound m → Fits o (partOf m) → Plays inner m h → All Remains h → Fits (openAtEnd o h) (partOf (end inner m h))
 fits-at o m [] s w p k = w
 fits-at o m (x ∷ h) s w p k =
     let g = goes x o m s w (p .0) (k .0) in

@@ -8,13 +8,13 @@ use mathlib.Core.List.{List, [], _∷_, _++_, append-assoc, append-nil}
 use native.Mathlib.Omega.{arith}
 use borrow.Author.Tests.{eq-eqb}
 use Rattle.rules.specs.Transfer.{receivedBytes}
-use Rattle.rules.specs.Module.{Module}
+use Rattle.rules.specs.Record.{Module}
 use Rattle.rules.specs.History.{Plays, end, All, keep}
 use Rattle.rules.specs.Transfers.{machine, Exchange, History, Kind, Started, Sent, Finished, Ticked, Powered, Other, kindOf, Open, none, by, bytesSoFar, openAfter, InOrder, AllInOrder, ByStarter, AllByStarter}
 use Rattle.rules.specs.Sends.{isSendOf, ownSends, pieceOf, pieces, SentBy, FinishedIn}
 use Rattle.rules.specs.Demand3.{Sound, Received, OwnPieces}
 use Rattle.rules.proofs.Joining.{all-left, plays-left, plays-right}
-use Rattle.rules.proofs.Parts.{storeOf, inner}
+use Rattle.rules.proofs.Split.{partOf, inner}
 use Rattle.rules.proofs.Gate.{Remains, inwards}
 use Rattle.rules.proofs.Inside.{Within, finish-at}
 use Rattle.rules.proofs.Moved.{between-within, free-of}
@@ -116,7 +116,7 @@ module _ (m : Module) (h : History) (f : FinishedIn h) where
       ∙ ap (λ (o : Open). openAtEnd o (f .between)) start-is
       ∙ open-between (f .starter) (f .context) (f .between) ins []
 
-  pub at-finish : Sound m → Fits none (storeOf m) → Plays inner m h → All Remains h → AtFinish m f
+  pub at-finish : Sound m → Fits none (partOf m) → Plays inner m h → All Remains h → AtFinish m f
   unfolding pre last
   at-finish sound w p k = record { bytes-are = bytes; played = q }
     where
@@ -125,13 +125,13 @@ module _ (m : Module) (h : History) (f : FinishedIn h) where
 
       bytes : receivedBytes (end inner m pre .device .transfer) (end inner m pre .area) ≡ pieces (ownSends (f .context) (f .between))
       bytes =
-          bytes-open (openAtEnd none pre) (storeOf (end inner m pre))
+          bytes-open (openAtEnd none pre) (partOf (end inner m pre))
           (fits-at none m pre sound w (plays-left inner m pre last q) (all-left Remains pre last (subst (All Remains) whole k)))
           (finish-at (end inner m pre) (f .finish) (f .finisher) (f .context) (f .flag) (f .finishes) (plays-right inner m pre last q .0) .at)
           ∙ ap bytesSoFar (open-is (between-within m f sound p k))
 
   -- The received bytes are its own pieces, whoever called.
-  pub received : Sound m → Fits none (storeOf m) → Plays machine m h → All Remains h → Received m f
+  pub received : Sound m → Fits none (partOf m) → Plays machine m h → All Remains h → Received m f
   unfolding pre last
   received sound w p k =
       ap (λ (z : Module). receivedBytes (z .device .transfer) (z .area))

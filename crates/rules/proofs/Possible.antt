@@ -10,16 +10,15 @@ use lib.ListN.{length}
 use borrow.Author.Tests.{eq-eqb}
 use Rattle.rules.specs.Bytes.{zeros?}
 use Rattle.rules.specs.Numbers.{areaSize}
-use Rattle.rules.specs.Record.{fresh, possible, possibleTransfer, possibleSecurity, possibleThresholds}
-use Rattle.rules.specs.Module.{Module, Event, step}
+use Rattle.rules.specs.Record.{fresh, possible, possibleTransfer, possibleSecurity, possibleThresholds, Module}
+use Rattle.rules.specs.Module.{Event, step}
 use Rattle.rules.specs.History.{end}
 use Rattle.rules.specs.Transfers.{machine, History}
 use Rattle.rules.specs.Demand3.{freshWith, Sound}
 use Rattle.rules.specs.declared.Refusal.the-variants.{R}
 use Rattle.rules.specs.declared.Verdict.the-variants.{Refused}
-use Rattle.rules.specs.declared.Device.{Device}
-use Rattle.rules.proofs.Parts.{Act, act, nexts}
-use Rattle.rules.proofs.Through.{numbered, Through, through, gate-numbered, shut}
+use Rattle.rules.proofs.Split.{Act, act, nexts}
+use Rattle.rules.proofs.Through.{noR, Through, through, gate-noR, shut}
 use Rattle.rules.specs.Demand1.{bufferTooShort}
 use Rattle.rules.proofs.Keeps.{Ok, ok-next, ok-possible, possible-ok, fit-next}
 
@@ -28,33 +27,30 @@ pub possible-fresh : possible fresh ≡ true
 unfolding possible possibleTransfer possibleSecurity possibleThresholds zeros?
 possible-fresh = refl
 
-abbrev at : Device → List ℕ → Module
-at d area = record { device = d; area = area }
-
 ok-step : (m : Module) (event : Event) → Ok m → Ok (machine .next m event)
 ok-step m event w = go (bufferTooShort event) refl
   where
     go : (b : Bool) → bufferTooShort event ≡ b → Ok (machine .next m event)
     go true e = subst (λ (u : Module). Ok u) (sym (shut m event e .same)) w
     go false e =
-        subst (λ (u : Module). Ok u) (sym (through m event e (eq-eqb (length (m .area)) areaSize (w .stores .size)) (ok-possible m w) .nexts-as)) (ok-next m (act event) w)
+        subst (λ (u : Module). Ok u) (sym (through m event e (eq-eqb (length (m .area)) areaSize (w .part .size)) (ok-possible m w) .nexts-as)) (ok-next m (act event) w)
 
 -- Every event takes a possible record to a possible record.
-pub possible-next : (d : Device) (area : List ℕ) (event : Event) → possible d ≡ true → length area ≡ areaSize → possible (step d area event .device) ≡ true
-possible-next d area event p l = ok-possible (machine .next (at d area) event) (ok-step (at d area) event (possible-ok (at d area) p l))
+pub possible-next : (m : Module) (event : Event) → possible (m .device) ≡ true → length (m .area) ≡ areaSize → possible (step m event .after .device) ≡ true
+possible-next m event p l = ok-possible (machine .next m event) (ok-step m event (possible-ok m p l))
 
 -- Every event keeps the area's size.
-pub area-next : (d : Device) (area : List ℕ) (event : Event) → possible d ≡ true → length area ≡ areaSize → length (step d area event .area) ≡ areaSize
-area-next d area event p l = ok-step (at d area) event (possible-ok (at d area) p l) .stores .size
+pub area-next : (m : Module) (event : Event) → possible (m .device) ≡ true → length (m .area) ≡ areaSize → length (step m event .after .area) ≡ areaSize
+area-next m event p l = ok-step m event (possible-ok m p l) .part .size
 
 -- R2 and R3 are never given; R1 only to a call with a short answer buffer.
-pub only-R1 : (d : Device) (area : List ℕ) (event : Event) (number : ℕ) → possible d ≡ true → length area ≡ areaSize
-    → step d area event .reply .verdict ≡ Refused (R number) → (number ≡ 1) × (bufferTooShort event ≡ true)
-only-R1 d area event number p l r = go (bufferTooShort event) refl
+pub only-R1 : (m : Module) (event : Event) (number : ℕ) → possible (m .device) ≡ true → length (m .area) ≡ areaSize
+    → step m event .reply .verdict ≡ Refused (R number) → (number ≡ 1) × (bufferTooShort event ≡ true)
+only-R1 m event number p l r = go (bufferTooShort event) refl
   where
     go : (b : Bool) → bufferTooShort event ≡ b → (number ≡ 1) × (bufferTooShort event ≡ true)
-    go true e = let q = shut (at d area) event e .R1 in (cc, e)
-    go false e = let q = ap numbered (sym r) ∙ gate-numbered (at d area) event e (eq-eqb (length area) areaSize l) p in let z : _≡_ {A = ℕ} 0 1 = cc in absurd (omega arith)
+    go true e = let q = shut m event e .R1 in (cc, e)
+    go false e = let q = ap noR (sym r) ∙ gate-noR m event e (eq-eqb (length (m .area)) areaSize l) p in let z : _≡_ {A = ℕ} 0 1 = cc in absurd (omega arith)
 
 -- The same of a whole module, with the width of contexts.
 pub sound-fresh : (area : List ℕ) → length area ≡ areaSize → Sound (freshWith area)
@@ -63,7 +59,7 @@ sound-fresh area l = record { record-possible = possible-fresh; contexts-fit = o
 pub sound-act : (m : Module) (a : Act) → Sound m → Sound (nexts m a)
 sound-act m a w =
     let k = ok-next m a (possible-ok m (w .record-possible) (w .area-size)) in
-    record { record-possible = ok-possible (nexts m a) k; contexts-fit = fit-next m a (w .contexts-fit); area-size = k .stores .size }
+    record { record-possible = ok-possible (nexts m a) k; contexts-fit = fit-next m a (w .contexts-fit); area-size = k .part .size }
 
 -- past R1 a sound module is its two parts
 pub sound-through : (m : Module) (event : Event) → Sound m → bufferTooShort event ≡ false → Through m event

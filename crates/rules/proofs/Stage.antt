@@ -8,12 +8,12 @@ use mathlib.Core.List.{List, [], _∷_}
 use native.Mathlib.Omega.{arith}
 use borrow.Author.Tests.{eqb-true, eq-eqb}
 use Rattle.rules.specs.Tests.{if_then_else_, _=?_}
-use Rattle.rules.specs.Record.{_is_}
+use Rattle.rules.specs.Record.{_is_, Module}
 use Rattle.rules.specs.Image.{imageOf}
 use Rattle.rules.specs.Refusals.{refused?}
 use Rattle.rules.specs.Table.{rowOf}
 use Rattle.rules.specs.Transfer.{TransferCall, GetFwInfo, Start, Send, Finish, Query, receivedBytes}
-use Rattle.rules.specs.Module.{Call, OnMask, OnThresholds, OnTransfer, OnSecurity, OnNothing, Module, Event, call, tick, power, outOf, callIn}
+use Rattle.rules.specs.Module.{Call, OnMask, OnThresholds, OnTransfer, OnSecurity, OnNothing, Event, call, tick, power, callIn, step}
 use Rattle.rules.specs.History.{end}
 use Rattle.rules.specs.Transfers.{Answer, machine, Exchange, History, Kind, Started, Sent, Finished, Other, callKind, kindOf}
 use Rattle.rules.specs.Sends.{tickCount, powerCount, powerCycles}
@@ -25,16 +25,16 @@ use Rattle.rules.specs.declared.Phase.the-variants.{Receiving, Verifying
 use Rattle.rules.specs.declared.Transfer.{Transfer}
 use Rattle.rules.proofs.Choice.{if-both, and-true}
 use Rattle.rules.proofs.Joining.{end-join}
-use Rattle.rules.proofs.Parts.{Store, storeOf, Act, Transfers, Others, Ticks, Powers, act, actOf, unserved?, misfit?, storeVerdict, storeChange, storeNext, storeTick, nexts, actKind}
+use Rattle.rules.proofs.Split.{TransferPart, partOf, Act, Transfers, Others, Ticks, Powers, act, actOf, unserved?, misfit?, partVerdict, partChange, partNext, partTick, nexts, actKind}
 use Rattle.rules.proofs.Through.{shut, kind-act}
 use Rattle.rules.specs.Demand1.{bufferTooShort}
 use Rattle.rules.proofs.Facts.{never, is-phase, start-ok, send-ok, finish-ok, Tick, calm, counting, good, bad, tick-case}
-use Rattle.rules.proofs.Keeps.{store-when}
+use Rattle.rules.proofs.Keeps.{part-when}
 use Rattle.rules.proofs.Possible.{sound-through, sound-next, sound-end}
 use Rattle.rules.proofs.Swap.{still}
 
 -- the next tick stages the version
-pub record Ripe (s : Store) (version : ℕ) : Type 0 where
+pub record Ripe (s : TransferPart) (version : ℕ) : Type 0 where
   pub at : s .transfer .phase ≡ Verifying
   pub last : s .transfer .ticks ≤ 1
   pub good-image : imageOf (receivedBytes (s .transfer) (s .area)) ≡ Good version
@@ -49,37 +49,37 @@ busy-not p b e = never (sym b ∙ ap busy e)
 busy-start : (p : Phase) → busy p ≡ true → (p is Verifying) ≡ false → (p is Staged) ≡ false → ⊥
 busy-start p b v s = never (sym b ∙ rw (v, s))
 
-quiet-change : (s : Store) (a b : Bool) (x : TransferCall) → busy (s .transfer .phase) ≡ true → storeVerdict s a b x ≡ Accepted → storeChange s x ≡ s
+quiet-change : (s : TransferPart) (a b : Bool) (x : TransferCall) → busy (s .transfer .phase) ≡ true → partVerdict s a b x ≡ Accepted → partChange s x ≡ s
 quiet-change s a b GetFwInfo w v = refl
 quiet-change s a b Start w v = let k = start-ok s a b v in absurd (busy-start (s .transfer .phase) w (k .not-verifying) (k .not-staged))
 quiet-change s a b (Send context offset size piece) w v = absurd (busy-not (s .transfer .phase) w (send-ok s a b context offset size piece v .at))
 quiet-change s a b (Finish flag context) w v = absurd (busy-not (s .transfer .phase) w (finish-ok s a b flag context v .at))
 quiet-change s a b (Query context) w v = refl
 
-pub quiet : (s : Store) (a b : Bool) (x : TransferCall) → busy (s .transfer .phase) ≡ true → storeNext s a b x ≡ s
-quiet s a b x w = store-when (λ (u : Store). u ≡ s) (storeVerdict s a b x) s x refl (λ v. quiet-change s a b x w v)
+pub quiet : (s : TransferPart) (a b : Bool) (x : TransferCall) → busy (s .transfer .phase) ≡ true → partNext s a b x ≡ s
+quiet s a b x w = part-when (λ (u : TransferPart). u ≡ s) (partVerdict s a b x) s x refl (λ v. quiet-change s a b x w v)
 
 -- only a tick stages
-staged-change : (s : Store) (x : TransferCall) → (s .transfer .phase is Staged) ≡ false → (storeChange s x .transfer .phase is Staged) ≡ false
+staged-change : (s : TransferPart) (x : TransferCall) → (s .transfer .phase is Staged) ≡ false → (partChange s x .transfer .phase is Staged) ≡ false
 staged-change s GetFwInfo w = w
 staged-change s Start w = refl
 staged-change s (Send context offset size piece) w = w
 staged-change s (Finish flag context) w = if-both (λ (t : Transfer). (t .phase is Staged) ≡ false) (flag =? 0) refl refl
 staged-change s (Query context) w = w
 
-tick-ripe : (s : Store) (version : ℕ) → Tick (s .transfer) (s .area) → (s .transfer .phase is Staged) ≡ false → storeTick s .transfer .phase ≡ Staged → storeTick s .transfer .staged ≡ version → Ripe s version
+tick-ripe : (s : TransferPart) (version : ℕ) → Tick (s .transfer) (s .area) → (s .transfer .phase is Staged) ≡ false → partTick s .transfer .phase ≡ Staged → partTick s .transfer .staged ≡ version → Ripe s version
 tick-ripe s version (calm n e) w p v = never (sym (ap (λ (q : Phase). q is Staged) p) ∙ ap (λ (t : Transfer). t .phase is Staged) e ∙ w)
 tick-ripe s version (counting q l e) w p v = never (sym (ap (λ (z : Phase). z is Staged) p) ∙ ap (λ (t : Transfer). t .phase is Staged) e ∙ w)
 tick-ripe s version (good found q l i e) w p v = record { at = q; last = l; good-image = i ∙ ap Good (sym (ap (λ (t : Transfer). t .staged) e) ∙ v) }
 tick-ripe s version (bad q l i e) w p v = never (sym (ap (λ (z : Phase). z is Staged) p) ∙ ap (λ (t : Transfer). t .phase is Staged) e)
 
 stages-act : (m : Module) (f : Act) (version : ℕ) → (m .device .transfer .phase is Staged) ≡ false → nexts m f .device .transfer .phase ≡ Staged → nexts m f .device .transfer .staged ≡ version
-    → (f ≡ Ticks) × Ripe (storeOf m) version
+    → (f ≡ Ticks) × Ripe (partOf m) version
 stages-act m (Transfers host a b x n answer) version w p v =
     never (sym (ap (λ (z : Phase). z is Staged) p)
-    ∙ store-when (λ (u : Store). (u .transfer .phase is Staged) ≡ false) (storeVerdict (storeOf m) a b x) (storeOf m) x w (λ e. staged-change (storeOf m) x w))
+    ∙ part-when (λ (u : TransferPart). (u .transfer .phase is Staged) ≡ false) (partVerdict (partOf m) a b x) (partOf m) x w (λ e. staged-change (partOf m) x w))
 stages-act m (Others a b x n answer) version w p v = never (sym (ap (λ (z : Phase). z is Staged) p) ∙ w)
-stages-act m Ticks version w p v = (refl, tick-ripe (storeOf m) version (tick-case (m .device .transfer) (m .area)) w p v)
+stages-act m Ticks version w p v = (refl, tick-ripe (partOf m) version (tick-case (m .device .transfer) (m .area)) w p v)
 stages-act m Powers version w p v = never (sym (ap (λ (z : Phase). z is Staged) p))
 
 call-no-tick : (host : ℕ) (a b : Bool) (c : Call) (n : ℕ) (answer : List ℕ) → actOf host a b c n answer ≡ Ticks → ⊥
@@ -96,10 +96,10 @@ event-tick tick e = refl
 event-tick power e = let z : _≡_ {A = ℕ} 0 1 = cc in absurd (omega arith)
 
 -- a module that is Staged stays as it is, but for a power cycle
-staged-act : (m : Module) (f : Act) → m .device .transfer .phase ≡ Staged → (f ≡ Powers) ⊎ (storeOf (nexts m f) ≡ storeOf m)
-staged-act m (Transfers host a b x n answer) p = inr (quiet (storeOf m) a b x (ap busy p))
+staged-act : (m : Module) (f : Act) → m .device .transfer .phase ≡ Staged → (f ≡ Powers) ⊎ (partOf (nexts m f) ≡ partOf m)
+staged-act m (Transfers host a b x n answer) p = inr (quiet (partOf m) a b x (ap busy p))
 staged-act m (Others a b x n answer) p = inr refl
-staged-act m Ticks p = inr (still (storeOf m) (ap (λ (q : Phase). q is Verifying) p))
+staged-act m Ticks p = inr (still (partOf m) (ap (λ (q : Phase). q is Verifying) p))
 staged-act m Powers p = inl refl
 
 -- Staged with a version: the phase, and the version
@@ -113,7 +113,7 @@ staged-as m version e =
     record { phase = is-phase (m .device .transfer .phase) Staged (q .0); version-is = eqb-true (m .device .transfer .staged) version (q .1) }
 
 -- "From Staged the staged version becomes the running one."
-pub taken-over : (m : Module) (version : ℕ) → Sound m → stagedWith version m ≡ true → outOf m power .device .transfer .running ≡ version
+pub taken-over : (m : Module) (version : ℕ) → Sound m → stagedWith version m ≡ true → step m power .after .device .transfer .running ≡ version
 taken-over m version w e =
     let q = staged-as m version e in
     ap (λ (u : Module). u .device .transfer .running) (sound-through m power w refl .nexts-as)
@@ -124,27 +124,27 @@ taken-over m version w e =
 staged-over : (m : Module) (f : Act) (version : ℕ) → m .device .transfer .phase ≡ Staged → stagedWith version m ≡ false → stagedWith version (nexts m f) ≡ true → ⊥
 staged-over m f version p n y = go (staged-act m f p)
   where
-    go : (f ≡ Powers) ⊎ (storeOf (nexts m f) ≡ storeOf m) → ⊥
+    go : (f ≡ Powers) ⊎ (partOf (nexts m f) ≡ partOf m) → ⊥
     go (inl e) = never (sym (ap (λ (q : Phase). q is Staged) (staged-as (nexts m f) version y .phase)) ∙ ap (λ (g : Act). nexts m g .device .transfer .phase is Staged) e)
-    go (inr e) = never (sym y ∙ ap (λ (s : Store). s .transfer .phase is Staged && s .transfer .staged =? version) e ∙ n)
+    go (inr e) = never (sym y ∙ ap (λ (s : TransferPart). s .transfer .phase is Staged && s .transfer .staged =? version) e ∙ n)
 
-stages-next : (m : Module) (f : Act) (version : ℕ) → stagedWith version m ≡ false → stagedWith version (nexts m f) ≡ true → (f ≡ Ticks) × Ripe (storeOf m) version
+stages-next : (m : Module) (f : Act) (version : ℕ) → stagedWith version m ≡ false → stagedWith version (nexts m f) ≡ true → (f ≡ Ticks) × Ripe (partOf m) version
 stages-next m f version n y = go (m .device .transfer .phase is Staged) refl
   where
-    go : (b : Bool) → (m .device .transfer .phase is Staged) ≡ b → (f ≡ Ticks) × Ripe (storeOf m) version
+    go : (b : Bool) → (m .device .transfer .phase is Staged) ≡ b → (f ≡ Ticks) × Ripe (partOf m) version
     go true e = absurd (staged-over m f version (is-phase (m .device .transfer .phase) Staged e) n y)
     go false e = let q = staged-as (nexts m f) version y in stages-act m f version e (q .phase) (q .version-is)
 
-pub stages-ripe : (m : Module) (event : Event) (version : ℕ) → Sound m → Stages m event version → (event ≡ tick) × Ripe (storeOf m) version
+pub stages-ripe : (m : Module) (event : Event) (version : ℕ) → Sound m → Stages m event version → (event ≡ tick) × Ripe (partOf m) version
 stages-ripe m event version w g = go (bufferTooShort event) refl
   where
-    go : (b : Bool) → bufferTooShort event ≡ b → (event ≡ tick) × Ripe (storeOf m) version
+    go : (b : Bool) → bufferTooShort event ≡ b → (event ≡ tick) × Ripe (partOf m) version
     go true e = never (sym (g .afterwards) ∙ ap (stagedWith version) (shut m event e .same) ∙ g .not-before)
     go false e =
         let q = stages-next m (act event) version (g .not-before) (ap (stagedWith version) (sym (sound-through m event w e .nexts-as)) ∙ g .afterwards) in
         (event-tick event (q .0), q .1)
 
-tick-good : (s : Store) (version : ℕ) → Ripe s version → Tick (s .transfer) (s .area) → (storeTick s .transfer .phase ≡ Staged) × (storeTick s .transfer .staged ≡ version)
+tick-good : (s : TransferPart) (version : ℕ) → Ripe s version → Tick (s .transfer) (s .area) → (partTick s .transfer .phase ≡ Staged) × (partTick s .transfer .staged ≡ version)
 tick-good s version r (calm n e) = never (sym (ap (λ (z : Phase). z is Verifying) (r .at)) ∙ n)
 tick-good s version r (counting p l e) = absurd (omega (arith, r .last))
 tick-good s version r (good found p l i e) =
@@ -155,16 +155,16 @@ tick-good s version r (bad p l i e) =
     let same : Bad ≡ Good version = sym i ∙ r .good-image in
     let z : _≡_ {A = ℕ} 0 1 = cc in absurd (omega arith)
 
-pub ripe-stages : (m : Module) (version : ℕ) → Sound m → Ripe (storeOf m) version → Stages m tick version
+pub ripe-stages : (m : Module) (version : ℕ) → Sound m → Ripe (partOf m) version → Stages m tick version
 ripe-stages m version w r =
     let t = sound-through m tick w refl .nexts-as in
-    let q = tick-good (storeOf m) version r (tick-case (m .device .transfer) (m .area)) in
+    let q = tick-good (partOf m) version r (tick-case (m .device .transfer) (m .area)) in
     record {
       not-before = ap (λ (z : Phase). z is Staged && m .device .transfer .staged =? version) (r .at);
       afterwards =
           ap (stagedWith version) t
-          ∙ ap (λ (z : Phase). z is Staged && storeTick (storeOf m) .transfer .staged =? version) (q .0)
-          ∙ eq-eqb (storeTick (storeOf m) .transfer .staged) version (q .1);
+          ∙ ap (λ (z : Phase). z is Staged && partTick (partOf m) .transfer .staged =? version) (q .0)
+          ∙ eq-eqb (partTick (partOf m) .transfer .staged) version (q .1);
     }
 
 -- a call counts neither as a tick nor as a power cycle
@@ -183,9 +183,9 @@ no-tick host (Query context) got = refl
 staged-next : (m : Module) (f : Act) (got : Answer) → m .device .transfer .phase ≡ Staged → powerCount (actKind f got) ≡ 0 → nexts m f .device .transfer .phase ≡ Staged
 staged-next m f got p z = go (staged-act m f p)
   where
-    go : (f ≡ Powers) ⊎ (storeOf (nexts m f) ≡ storeOf m) → nexts m f .device .transfer .phase ≡ Staged
+    go : (f ≡ Powers) ⊎ (partOf (nexts m f) ≡ partOf m) → nexts m f .device .transfer .phase ≡ Staged
     go (inl e) = absurd (omega (arith, ap (λ (g : Act). powerCount (actKind g got)) e))
-    go (inr e) = ap (λ (s : Store). s .transfer .phase) e ∙ p
+    go (inr e) = ap (λ (s : TransferPart). s .transfer .phase) e ∙ p
 
 staged-step : (m : Module) (x : Exchange) → Sound m → m .device .transfer .phase ≡ Staged → powerCount (kindOf x) ≡ 0 → machine .next m (x .event) .device .transfer .phase ≡ Staged
 staged-step m x w p z = go (bufferTooShort (x .event)) refl

@@ -5,12 +5,12 @@ use mathlib.Core.Path.{_≡_, refl, sym, _∙_, subst}
 use mathlib.Core.Logic.{inl, inr}
 use mathlib.Core.List.{List, [], _∷_}
 use native.Mathlib.Omega.{arith}
-use Rattle.rules.specs.Module.{Module}
+use Rattle.rules.specs.Record.{Module}
 use Rattle.rules.specs.History.{Plays, All}
 use Rattle.rules.specs.Transfers.{Exchange, History, Kind, Started, Sent, Finished, Ticked, Powered, Other, kindOf, Open, none, by, withPiece, openAfter, ContextIs, InOrder, StarterIs, ByStarter, AllByStarter}
 use Rattle.rules.specs.Hosts.{AnsweredTo, HonestAfter}
 use Rattle.rules.specs.Demand3.{Sound}
-use Rattle.rules.proofs.Parts.{Store, storeOf, act, inner}
+use Rattle.rules.proofs.Split.{TransferPart, partOf, act, inner}
 use Rattle.rules.proofs.Possible.{sound-act}
 use Rattle.rules.proofs.Gate.{Remains}
 use Rattle.rules.proofs.KindOf.{NoStart}
@@ -24,11 +24,11 @@ Sole past none = Unit {0}
 Sole past (by host context bytes) = (j : ℕ) → AnsweredTo j context past → j ≡ host
 
 -- what is known of the hosts: that, and no context answered is above the number given out
-pub record Hosts (past : History) (o : Open) (s : Store) : Type 0 where
+pub record Hosts (past : History) (o : Open) (s : TransferPart) : Type 0 where
   pub sole : Sole past o
   pub below : (host context : ℕ) → AnsweredTo host context past → context ≤ given s
 
-pub hosts-fresh : (s : Store) → Hosts [] none s
+pub hosts-fresh : (s : TransferPart) → Hosts [] none s
 hosts-fresh s = record { sole = tt; below = λ host context m. absurd m }
 
 -- an exchange that is no Start adds no Start
@@ -40,7 +40,7 @@ sole-older : (past : History) (x : Exchange) (k : Kind) (o : Open) → kindOf x 
 sole-older past x k none e n s = tt
 sole-older past x k (by host context bytes) e n s = λ j m. s j (older past x k j context e n m)
 
-add : (past : History) (x : Exchange) (k : Kind) (o o′ : Open) (s u : Store) → kindOf x ≡ k → NoStart k → Hosts past o s → Sole past o′ → given u ≡ given s → Hosts (x ∷ past) o′ u
+add : (past : History) (x : Exchange) (k : Kind) (o o′ : Open) (s u : TransferPart) → kindOf x ≡ k → NoStart k → Hosts past o s → Sole past o′ → given u ≡ given s → Hosts (x ∷ past) o′ u
 add past x k o o′ s u e n w so g =
     record { sole = sole-older past x k o′ e n so; below = λ host context m. rw g (w .below host context (older past x k host context e n m)) }
 
@@ -49,11 +49,11 @@ sole-piece past none piece s = tt
 sole-piece past (by host context bytes) piece s = s
 
 -- a Start
-hosts-start : (past : History) (x : Exchange) (o : Open) (m : Module) (host context : ℕ) → kindOf x ≡ Started host context → Begun m x host context → Hosts past o (storeOf m)
-    → Hosts (x ∷ past) (by host context []) (storeOf (inner .next m (x .event)))
+hosts-start : (past : History) (x : Exchange) (o : Open) (m : Module) (host context : ℕ) → kindOf x ≡ Started host context → Begun m x host context → Hosts past o (partOf m)
+    → Hosts (x ∷ past) (by host context []) (partOf (inner .next m (x .event)))
 hosts-start past x o m host context e b w = record { sole = sole; below = below }
   where
-    below : (j c : ℕ) → AnsweredTo j c (x ∷ past) → c ≤ given (storeOf (inner .next m (x .event)))
+    below : (j c : ℕ) → AnsweredTo j c (x ∷ past) → c ≤ given (partOf (inner .next m (x .event)))
     below j c (inl q) = let same : Started j c ≡ Started host context = sym q ∙ e in let r : c ≡ context = cc in omega (arith, b .ctx)
     below j c (inr r) = omega (arith, w .below j c r, b .next-number, b .ctx)
 
@@ -66,23 +66,23 @@ starter-is : (past : History) (o : Open) (host context : ℕ) → Sole past o �
 starter-is past none host context s i m = absurd i
 starter-is past (by starter c bytes) host context s i m = s host (subst (λ (n : ℕ). AnsweredTo host n past) i m)
 
-record Turned (past : History) (x : Exchange) (o : Open) (k : Kind) (u : Store) : Type 0 where
+record Turned (past : History) (x : Exchange) (o : Open) (k : Kind) (u : TransferPart) : Type 0 where
   turn : ByStarter o k
   hosts : Hosts (x ∷ past) (openAfter o k) u
 
-turned : (past : History) (x : Exchange) (o : Open) (m : Module) (k : Kind) → kindOf x ≡ k → Sound m → inner .answer m (x .event) ≡ x .got → Hosts past o (storeOf m) → InOrder o k → UsesKind past k
-    → (NoStart k → given (storeOf (inner .next m (x .event))) ≡ given (storeOf m)) → Turned past x o k (storeOf (inner .next m (x .event)))
+turned : (past : History) (x : Exchange) (o : Open) (m : Module) (k : Kind) → kindOf x ≡ k → Sound m → inner .answer m (x .event) ≡ x .got → Hosts past o (partOf m) → InOrder o k → UsesKind past k
+    → (NoStart k → given (partOf (inner .next m (x .event))) ≡ given (partOf m)) → Turned past x o k (partOf (inner .next m (x .event)))
 turned past x o m (Started host context) e sound p w i u g = record { turn = tt; hosts = hosts-start past x o m host context e (begun m x host context sound e p) w }
 turned past x o m (Sent host context offset piece) e sound p w i u g =
-    record { turn = starter-is past o host context (w .sole) (i .0) u; hosts = add past x (Sent host context offset piece) o (withPiece o piece) (storeOf m) _ e tt w (sole-piece past o piece (w .sole)) (g tt) }
+    record { turn = starter-is past o host context (w .sole) (i .0) u; hosts = add past x (Sent host context offset piece) o (withPiece o piece) (partOf m) _ e tt w (sole-piece past o piece (w .sole)) (g tt) }
 turned past x o m (Finished host context flag) e sound p w i u g =
-    record { turn = starter-is past o host context (w .sole) i u; hosts = add past x (Finished host context flag) o none (storeOf m) _ e tt w tt (g tt) }
-turned past x o m Ticked e sound p w i u g = record { turn = tt; hosts = add past x Ticked o o (storeOf m) _ e tt w (w .sole) (g tt) }
-turned past x o m Powered e sound p w i u g = record { turn = tt; hosts = add past x Powered o none (storeOf m) _ e tt w tt (g tt) }
-turned past x o m Other e sound p w i u g = record { turn = tt; hosts = add past x Other o o (storeOf m) _ e tt w (w .sole) (g tt) }
+    record { turn = starter-is past o host context (w .sole) i u; hosts = add past x (Finished host context flag) o none (partOf m) _ e tt w tt (g tt) }
+turned past x o m Ticked e sound p w i u g = record { turn = tt; hosts = add past x Ticked o o (partOf m) _ e tt w (w .sole) (g tt) }
+turned past x o m Powered e sound p w i u g = record { turn = tt; hosts = add past x Powered o none (partOf m) _ e tt w tt (g tt) }
+turned past x o m Other e sound p w i u g = record { turn = tt; hosts = add past x Other o o (partOf m) _ e tt w (w .sole) (g tt) }
 
 -- in what remains of an honest history each transfer is from one host
-pub one-host : (past : History) (o : Open) (m : Module) (h : History) → Sound m → Fits o (storeOf m) → Hosts past o (storeOf m) → HonestAfter past h → Plays inner m h → All Remains h → AllByStarter o h
+pub one-host : (past : History) (o : Open) (m : Module) (h : History) → Sound m → Fits o (partOf m) → Hosts past o (partOf m) → HonestAfter past h → Plays inner m h → All Remains h → AllByStarter o h
 one-host past o m [] s f w u p k = tt
 one-host past o m (x ∷ h) s f w u p k =
     let g = goes x o m s f (p .0) (k .0) in

@@ -7,7 +7,7 @@ use mathlib.Core.Bool.{Bool, true, false, _||_, false≢true}
 use mathlib.Core.List.{[], _∷_, _++_, append-assoc}
 use native.Mathlib.Omega.{arith}
 use borrow.Author.Tests.{eqb-true, eq-eqb}
-use Rattle.rules.specs.Module.{Module}
+use Rattle.rules.specs.Record.{Module}
 use Rattle.rules.specs.History.{Plays, All, Same, some, upTo, onFrom}
 use Rattle.rules.specs.Transfers.{machine, Exchange, History, Kind, Started, Sent, Finished, Ticked, Powered, Other, kindOf}
 use Rattle.rules.specs.Sends.{isSendOf, ownSends, others, FinishedIn}

@@ -9,9 +9,8 @@ use native.Mathlib.Omega.{arith}
 use borrow.Author.Tests.{leb-true, leb-false}
 use Rattle.rules.specs.Tests.{_≤?_}
 use Rattle.rules.specs.Numbers.{verification}
-use Rattle.rules.specs.Record.{_is_}
+use Rattle.rules.specs.Record.{_is_, Module}
 use Rattle.rules.specs.Transfer.{Start}
-use Rattle.rules.specs.Module.{Module}
 use Rattle.rules.specs.History.{Plays, end, All}
 use Rattle.rules.specs.Transfers.{machine, Exchange, History, Started, kindOf}
 use Rattle.rules.specs.Sends.{ticksIn, powerCycles}
@@ -19,7 +18,7 @@ use Rattle.rules.specs.Demand3.{Sound, OneWaits}
 use Rattle.rules.specs.declared.Phase.{Phase}
 use Rattle.rules.specs.declared.Phase.the-variants.{Verifying}
 use Rattle.rules.proofs.Joining.{plays-right}
-use Rattle.rules.proofs.Parts.{Store, storeOf, Act, Transfers, act, answers, inner}
+use Rattle.rules.proofs.Split.{TransferPart, partOf, Act, Transfers, act, answers, inner}
 use Rattle.rules.proofs.Through.{kind-act}
 use Rattle.rules.proofs.Facts.{never, start-ok}
 use Rattle.rules.proofs.KindOf.{StartAct, started-act, good-accepted}
@@ -31,7 +30,7 @@ start-at : (m : Module) (x : Exchange) (host context : ℕ) → kindOf x ≡ Sta
 start-at m x host context k p =
     let f : StartAct (act (x .event)) (x .got) host context = started-act (act (x .event)) (x .got) host context (sym (kind-act x) ∙ k) in
     let q : answers m (Transfers host (f .unserved) (f .misfit) Start (f .n) (f .answer)) ≡ x .got = subst (λ (z : Act). answers m z ≡ x .got) (f .act-is) p in
-    start-ok (storeOf m) (f .unserved) (f .misfit) (good-accepted (storeOf m) (f .unserved) (f .misfit) Start (f .n) (f .answer) (x .got) q (f .good)) .not-verifying
+    start-ok (partOf m) (f .unserved) (f .misfit) (good-accepted (partOf m) (f .unserved) (f .misfit) Start (f .n) (f .answer) (x .got) q (f .good)) .not-verifying
 
 pub one-waits : (m : Module) (h : History) → Sound m → Plays machine m h → All Remains h → OneWaits h
 one-waits m h w p k before between since x y host other finished started e fx sy = go (verification ≤? ticksIn between) refl (1 ≤? powerCycles between) refl
@@ -48,11 +47,11 @@ one-waits m h w p k before between since x y host other finished started e fx sy
     px : Plays inner mx (x ∷ between ++ (y ∷ since))
     px = plays-right inner m before (x ∷ between ++ (y ∷ since)) (subst (λ (l : History). Plays inner m l) e (inwards m h w p k .plays))
 
-    left : storeOf my .transfer .phase ≡ Verifying
-    left = ap (λ (s : Store). s .transfer .phase) (after-finish mx x host finished fx (px .0))
+    left : partOf my .transfer .phase ≡ Verifying
+    left = ap (λ (s : TransferPart). s .transfer .phase) (after-finish mx x host finished fx (px .0))
 
-    eight : storeOf my .transfer .ticks ≡ verification
-    eight = ap (λ (s : Store). s .transfer .ticks) (after-finish mx x host finished fx (px .0))
+    eight : partOf my .transfer .ticks ≡ verification
+    eight = ap (λ (s : TransferPart). s .transfer .ticks) (after-finish mx x host finished fx (px .0))
 
     go : (a : Bool) → (verification ≤? ticksIn between) ≡ a → (b : Bool) → (1 ≤? powerCycles between) ≡ b → (verification ≤ ticksIn between) ⊎ (1 ≤ powerCycles between)
     go true f b g = inl (leb-true verification (ticksIn between) f)
@@ -60,5 +59,5 @@ one-waits m h w p k before between since x y host other finished started e fx sy
     go false f false g =
         let few = leb-false verification (ticksIn between) f in
         let none = leb-false 1 (powerCycles between) g in
-        let still : Held (storeOf my) (storeOf mz) (ticksIn between) = held my between left (omega (arith, none)) (omega (arith, few, eight)) in
+        let still : Held (partOf my) (partOf mz) (ticksIn between) = held my between left (omega (arith, none)) (omega (arith, few, eight)) in
         never (sym (ap (λ (z : Phase). z is Verifying) (still .at)) ∙ start-at mz y other started sy (plays-right inner my between (y ∷ since) (px .1) .0))

@@ -8,8 +8,8 @@ use Rattle.rules.specs.Tests.{if_then_else_, _=?_}
 use Rattle.rules.specs.Bytes.{le, zeros, same?}
 use Rattle.rules.specs.Numbers.{areaSize}
 use Rattle.rules.specs.With.{_with-transfer_, _with-phase_, _with-contexts_, _with-received_}
-use Rattle.rules.specs.Record.{_is_, fresh}
-use Rattle.rules.specs.Module.{Module, Result, Event, call, tick, outOf, after}
+use Rattle.rules.specs.Record.{_is_, fresh, Module, moduleOf}
+use Rattle.rules.specs.Module.{Result, Event, call, tick, step}
 use Rattle.rules.specs.Replay.{replayStart}
 use Rattle.rules.specs.declared.Phase.the-variants.{Receiving, Staged, Failed}
 
@@ -34,14 +34,14 @@ abbrev as-expected : Result → (expected : List ℕ) → Bool
 as-expected result expected =
     (result .reply .length =? length expected) && same? (result .answer) (expected ++ drop (length expected) buffer)
 
-abbrev ticked : ℕ → Module → Module
-ticked zero m = m
-ticked (suc ticks) m = ticked ticks (after (outOf m tick))
+abbrev after-ticks : ℕ → Module → Module
+after-ticks zero m = m
+after-ticks (suc ticks) m = after-ticks ticks (step m tick .after)
 
 abbrev holdsFrom : Module → List Deed → (Module → Bool) → Bool
 holdsFrom m [] ends = ends m
-holdsFrom m ((event gets expected) ∷ deeds) ends = as-expected (outOf m event) expected && holdsFrom (after (outOf m event)) deeds ends
-holdsFrom m (passing ticks ∷ deeds) ends = holdsFrom (ticked ticks m) deeds ends
+holdsFrom m ((event gets expected) ∷ deeds) ends = as-expected (step m event) expected && holdsFrom (step m event .after) deeds ends
+holdsFrom m (passing ticks ∷ deeds) ends = holdsFrom (after-ticks ticks m) deeds ends
 
 abbrev pub holds : Case → Bool
 holds c = holdsFrom (c .from) (c .deeds) (c .ends)
@@ -87,10 +87,7 @@ started = status 0 ++ le 4 1
 -- a module that has received so many bytes, in the transfer with context 1; its area is full of 7
 abbrev receiving : ℕ → Module
 receiving n =
-    record {
-      device = fresh with-transfer (fresh .transfer with-phase Receiving with-contexts 1 with-received n);
-      area = replicate areaSize 7;
-    }
+    moduleOf (fresh with-transfer (fresh .transfer with-phase Receiving with-contexts 1 with-received n)) (replicate areaSize 7)
 
 -- one record, version 1: number 0 of 1, the version, the payload, and the last bytes
 abbrev one-record : (payload last : List ℕ) → List ℕ

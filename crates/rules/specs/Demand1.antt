@@ -12,7 +12,7 @@ use lib.ListN.{length, take}
 use Rattle.rules.specs.Tests.{if_then_else_, _≤?_, _<?_, _=?_}
 use Rattle.rules.specs.Bytes.{zeros}
 use Rattle.rules.specs.Numbers.{areaSize, answerRoom}
-use Rattle.rules.specs.Record.{fresh, possible}
+use Rattle.rules.specs.Record.{fresh, possible, Module}
 use Rattle.rules.specs.Refusals.{verdict, statusBytes, answerAfter, oneAttemptMore}
 use Rattle.rules.specs.Table.{rowOf}
 use Rattle.rules.specs.Module.{Result, callChecks, callResult, Event, call, tick, power, step}
@@ -21,7 +21,6 @@ use Rattle.rules.specs.declared.Row.{Row}
 use Rattle.rules.specs.declared.Refusal.{Refusal}
 use Rattle.rules.specs.declared.Refusal.the-variants.{R, Status}
 use Rattle.rules.specs.declared.Verdict.the-variants.{Accepted, Refused}
-use Rattle.rules.specs.declared.Device.{Device}
 
 -- the refusal numbers of document 01: R1 to R3; 1, 3, 6, 8, 10, 11; 7 with an extended number from 1 to 4. When each is given, the checks say.
 abbrev pub numbered : Refusal → Bool
@@ -40,12 +39,12 @@ column status n =
 
 -- A refused call writes its number's bytes. It leaves the record and the area unchanged, but for one thing: said again, as in the demand's words, to hold
 -- `recordLeft` to it.
-abbrev pub RefusedBy : Refusal → Device → (area : List ℕ) (n : ℕ) (answer : List ℕ) → Result → Type 0
-RefusedBy (R number) d area n answer result =
-    (result .device ≡ d) × (result .area ≡ area) × (result .answer ≡ answer) × (result .reply .length ≡ 0)
-RefusedBy (Status status ext) d area n answer result =
-    (result .device ≡ (if status =? 11 then oneAttemptMore d else d))
-    × (result .area ≡ area)
+abbrev pub RefusedBy : Refusal → Module → (n : ℕ) (answer : List ℕ) → Result → Type 0
+RefusedBy (R number) m n answer result =
+    (result .after .device ≡ m .device) × (result .after .area ≡ m .area) × (result .answer ≡ answer) × (result .reply .length ≡ 0)
+RefusedBy (Status status ext) m n answer result =
+    (result .after .device ≡ (if status =? 11 then oneAttemptMore (m .device) else m .device))
+    × (result .after .area ≡ m .area)
     × (result .answer ≡ answerAfter (statusBytes status ext ++ zeros (column status n - 4)) answer)
     × (result .reply .length ≡ column status n)
 
@@ -59,13 +58,13 @@ pub record Answered (row : Row) (answer : List ℕ) (result : Result) : Type 0 w
   pub begins : (row .function ≡ Mask → ⊥) → take 4 bytes ≡ zeros 4
 
 -- Demand 1 of a call
-pub record OfCall (d : Device) (area : List ℕ) (revision index : ℕ) (request answer : List ℕ) : Type 0 where
-  pub judged : callResult d area revision index request answer .reply .verdict ≡ verdict (callChecks d area revision index request answer)
-  pub numbers : (refusal : Refusal) → callResult d area revision index request answer .reply .verdict ≡ Refused refusal → numbered refusal ≡ true
-  pub leaves : (refusal : Refusal) → callResult d area revision index request answer .reply .verdict ≡ Refused refusal
-      → RefusedBy refusal d area (rowOf index .answer) answer (callResult d area revision index request answer)
-  pub answers : callResult d area revision index request answer .reply .verdict ≡ Accepted
-      → Answered (rowOf index) answer (callResult d area revision index request answer)
+pub record OfCall (m : Module) (revision index : ℕ) (request answer : List ℕ) : Type 0 where
+  pub judged : callResult m revision index request answer .reply .verdict ≡ verdict (callChecks m revision index request answer)
+  pub numbers : (refusal : Refusal) → callResult m revision index request answer .reply .verdict ≡ Refused refusal → numbered refusal ≡ true
+  pub leaves : (refusal : Refusal) → callResult m revision index request answer .reply .verdict ≡ Refused refusal
+      → RefusedBy refusal m (rowOf index .answer) answer (callResult m revision index request answer)
+  pub answers : callResult m revision index request answer .reply .verdict ≡ Accepted
+      → Answered (rowOf index) answer (callResult m revision index request answer)
 
 -- the answer buffer is too short for a call
 abbrev pub bufferTooShort : Event → Bool
@@ -75,13 +74,13 @@ bufferTooShort power = false
 
 -- Every event, a call, a tick or a power cycle, takes a possible record to a possible record and keeps the area's size; and it gives no R number but R1, for
 -- an answer buffer that is too short.
-pub record OfEvent (d : Device) (area : List ℕ) (event : Event) : Type 0 where
-  pub stays-possible : possible (step d area event .device) ≡ true
-  pub keeps-size : length (step d area event .area) ≡ areaSize
-  pub only-R1 : (number : ℕ) → step d area event .reply .verdict ≡ Refused (R number) → (number ≡ 1) × (bufferTooShort event ≡ true)
+pub record OfEvent (m : Module) (event : Event) : Type 0 where
+  pub stays-possible : possible (step m event .after .device) ≡ true
+  pub keeps-size : length (step m event .after .area) ≡ areaSize
+  pub only-R1 : (number : ℕ) → step m event .reply .verdict ≡ Refused (R number) → (number ≡ 1) × (bufferTooShort event ≡ true)
 
 -- Demand 1: any call with any bytes and any device record; and a fresh module's record is possible, so that what is said of events holds from there on.
 pub record Demand1 : Type 0 where
-  pub calls : (d : Device) (area : List ℕ) (revision index : ℕ) (request answer : List ℕ) → OfCall d area revision index request answer
-  pub events : (d : Device) (area : List ℕ) (event : Event) → possible d ≡ true → length area ≡ areaSize → OfEvent d area event
+  pub calls : (m : Module) (revision index : ℕ) (request answer : List ℕ) → OfCall m revision index request answer
+  pub events : (m : Module) (event : Event) → possible (m .device) ≡ true → length (m .area) ≡ areaSize → OfEvent m event
   pub fresh-possible : possible fresh ≡ true

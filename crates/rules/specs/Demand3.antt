@@ -8,10 +8,10 @@ use mathlib.Core.List.{List, _∷_}
 use lib.ListN.{length}
 use Rattle.rules.specs.Tests.{_=?_}
 use Rattle.rules.specs.Numbers.{areaSize, lastContext, verification}
-use Rattle.rules.specs.Record.{_is_, fresh, possible}
+use Rattle.rules.specs.Record.{_is_, fresh, given, possible, Module, moduleOf}
 use Rattle.rules.specs.Image.{imageOf}
 use Rattle.rules.specs.Transfer.{receivedBytes}
-use Rattle.rules.specs.Module.{Module, Event, tick, outOf, after}
+use Rattle.rules.specs.Module.{Event, tick, step}
 use Rattle.rules.specs.History.{historyOf, end, Same, only, All, _and-then_}
 use Rattle.rules.specs.Transfers.{machine, Exchange, History, Started, Finished, kindOf, none, AllInOrder, AllByStarter}
 use Rattle.rules.specs.Hosts.{Honest}
@@ -25,7 +25,7 @@ use Rattle.rules.specs.declared.Phase.the-variants.{Staged}
 
 -- "Begin with a fresh module"; its area is any of the right size.
 abbrev pub freshWith : (area : List ℕ) → Module
-freshWith area = record { device = fresh; area = area }
+freshWith area = moduleOf fresh area
 
 -- "Strike out the refused calls except wrong passphrases." R numbers are refusals; a wrong passphrase is status 11.
 abbrev pub remains : Verdict → Bool
@@ -53,9 +53,13 @@ EachFromOneHost h = AllByStarter none h
 abbrev pub atFinish : Module → {h : History} → FinishedIn h → Module
 atFinish m f = end machine m (f .before and-then f .start ∷ f .between)
 
--- the received bytes of the area are the pieces of the transfer's own Sends, joined in order
+-- the received bytes of the area
+abbrev pub receivedIn : Module → List ℕ
+receivedIn m = receivedBytes (m .device .transfer) (m .area)
+
+-- they are the pieces of the transfer's own Sends, joined in order
 abbrev pub Received : Module → {h : History} → FinishedIn h → Type 0
-Received m f = receivedBytes (atFinish m f .device .transfer) (atFinish m f .area) ≡ pieces (ownSends (f .context) (f .between))
+Received m f = receivedIn (atFinish m f) ≡ pieces (ownSends (f .context) (f .between))
 
 -- Two senders, one transfer: at a transfer's accepted Finish the received bytes of the area are exactly the pieces of its own Sends, joined in order; every
 -- one of those Sends was made by the host that made its Start, and so was the Finish. No byte of another sender is among them.
@@ -82,7 +86,7 @@ stagedWith version m = m .device .transfer .phase is Staged && m .device .transf
 -- The event stages the version: the module was not Staged with it before, and is afterwards.
 pub record Stages (m : Module) (event : Event) (version : ℕ) : Type 0 where
   pub not-before : stagedWith version m ≡ false
-  pub afterwards : stagedWith version (after (outOf m event)) ≡ true
+  pub afterwards : stagedWith version (step m event .after) ≡ true
 
 -- A staging is due: the history has an accepted, non-abort Finish of a transfer whose pieces, joined, are a good image of this version; after it come
 -- exactly seven ticks, no power cycle, and any other calls.
@@ -102,8 +106,7 @@ StagedExactly m h = (event : Event) (version : ℕ) → Stages (end machine m h)
 abbrev pub StagedAsSent : Module → History → Type 0
 StagedAsSent m h =
     (version : ℕ) (due : Due (struck h) version)
-    → receivedBytes (outOf (end machine m h) tick .device .transfer) (outOf (end machine m h) tick .area)
-    ≡ pieces (ownSends (due .transfer .context) (due .transfer .between))
+    → receivedIn (step (end machine m h) tick .after) ≡ pieces (ownSends (due .transfer .context) (due .transfer .between))
 
 -- "An image is staged once": between an exchange that stages and a later event that stages there is a power cycle. That one Finish never stages twice is in
 -- `StagedExactly`: what stages is the eighth tick after it, before any power cycle.
@@ -166,7 +169,7 @@ DemandOfWhatRemains =
 -- A module whose record is possible and has the declared width of contexts, with an area of the right size.
 pub record Sound (m : Module) : Type 0 where
   pub record-possible : possible (m .device) ≡ true
-  pub contexts-fit : m .device .transfer .contexts ≤ lastContext
+  pub contexts-fit : given (m .device .transfer) ≤ lastContext
   pub area-size : length (m .area) ≡ areaSize
 
 -- What holds from every such module, whatever contexts the hosts use.

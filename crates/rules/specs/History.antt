@@ -1,42 +1,11 @@
 -- Vocabulary: machines and their histories, that is, the events that came, each with the answer that it got, in their order. Knows no module; the
 -- module's own `History` is in Transfers.antt.
 -- Assumes nothing.
+use Prim.Native.Nat.{ℕ, _+_}
 use mathlib.Core.Path.{_≡_}
 use mathlib.Core.Bool.{Bool, true, false, not, _||_}
 use mathlib.Core.List.{List, [], _∷_, _++_}
 use Rattle.rules.specs.Tests.{if_then_else_}
-
--- a machine answers an event, and is in another state afterwards
-pub record Machine (S E A : Type 0) : Type 0 where
-  pub answer : S → E → A
-  pub next : S → E → S
-
--- an exchange: an event, and the answer that it got
-pub record ExchangeOf (E A : Type 0) : Type 0 where
-  pub event : E
-  pub got : A
-
-module _ {S E A : Type 0} (M : Machine S E A) where
-  -- the history that these events make, from the state s
-  abbrev pub historyOf : S → List E → List (ExchangeOf E A)
-  historyOf s [] = []
-  historyOf s (event ∷ events) = record { event = event; got = M .answer s event } ∷ historyOf (M .next s event) events
-
-  -- from the state s, every event of the history is answered just as the history says
-  abbrev pub Plays : S → List (ExchangeOf E A) → Type 0
-  Plays s [] = Unit {0}
-  Plays s (x ∷ h) = (M .answer s (x .event) ≡ x .got) × Plays (M .next s (x .event)) h
-
-  -- the end to which the history comes, from the state s
-  abbrev pub end : S → List (ExchangeOf E A) → S
-  end s [] = s
-  end s (x ∷ h) = end (M .next s (x .event)) h
-
-  -- "no answer or end changes": from the state s every event of k is answered just as k says, and k comes to the same end as h. The answers that k says are
-  -- h's, for k is made of h's own exchanges (`struck`, `moved`, `rearranged`).
-  pub record Same (s : S) (h k : List (ExchangeOf E A)) : Type 0 where
-    pub plays : Plays s k
-    pub ends : end s k ≡ end s h
 
 module _ {X : Type 0} where
   -- one list, and then another: `a and-then b and-then c` is read from left to right
@@ -78,3 +47,54 @@ module _ {X : Type 0} where
   abbrev pub All : (X → Type 0) → List X → Type 0
   All P [] = Unit {0}
   All P (x ∷ h) = P x × All P h
+
+  -- how much all come to, each counted by the function
+  abbrev pub total : (X → ℕ) → List X → ℕ
+  total count [] = 0
+  total count (x ∷ h) = count x + total count h
+
+-- Something is carried along a list, as a machine's state is: `onward s x` is what becomes of s at x.
+module _ {S X : Type 0} (onward : S → X → S) where
+  -- what has become of s at the end of the list
+  abbrev pub leadsTo : S → List X → S
+  leadsTo s [] = s
+  leadsTo s (x ∷ h) = leadsTo (onward s x) h
+
+  -- every one has the property, together with what is carried to it
+  abbrev pub Throughout : (S → X → Type 0) → S → List X → Type 0
+  Throughout P s [] = Unit {0}
+  Throughout P s (x ∷ h) = P s x × Throughout P (onward s x) h
+
+-- a machine answers an event, and is in another state afterwards
+pub record Machine (S E A : Type 0) : Type 0 where
+  pub answer : S → E → A
+  pub next : S → E → S
+
+-- an exchange: an event, and the answer that it got
+pub record ExchangeOf (E A : Type 0) : Type 0 where
+  pub event : E
+  pub got : A
+
+module _ {S E A : Type 0} (M : Machine S E A) where
+  -- the history that these events make, from the state s
+  abbrev pub historyOf : S → List E → List (ExchangeOf E A)
+  historyOf s [] = []
+  historyOf s (event ∷ events) = record { event = event; got = M .answer s event } ∷ historyOf (M .next s event) events
+
+  -- the state after an exchange
+  abbrev pub afterwards : S → ExchangeOf E A → S
+  afterwards s x = M .next s (x .event)
+
+  -- from the state s, every event of the history is answered just as the history says
+  abbrev pub Plays : S → List (ExchangeOf E A) → Type 0
+  Plays s h = Throughout afterwards (λ state x. M .answer state (x .event) ≡ x .got) s h
+
+  -- the end to which the history comes, from the state s
+  abbrev pub end : S → List (ExchangeOf E A) → S
+  end s h = leadsTo afterwards s h
+
+  -- "no answer or end changes": from the state s every event of k is answered just as k says, and k comes to the same end as h. The answers that k says are
+  -- h's, for k is made of h's own exchanges (`struck`, `moved`, `rearranged`).
+  pub record Same (s : S) (h k : List (ExchangeOf E A)) : Type 0 where
+    pub plays : Plays s k
+    pub ends : end s k ≡ end s h

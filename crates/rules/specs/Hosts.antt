@@ -7,7 +7,8 @@ use mathlib.Core.List.{List, [], _∷_}
 use lib.ListN.{length}
 use Rattle.rules.specs.Transfer.{GetFwInfo, Start, Send, Finish, Query}
 use Rattle.rules.specs.Module.{Call, OnMask, OnThresholds, OnTransfer, OnSecurity, OnNothing, Event, call, tick, power, callIn}
-use Rattle.rules.specs.Transfers.{History, Started, kindOf}
+use Rattle.rules.specs.History.{Throughout}
+use Rattle.rules.specs.Transfers.{Exchange, History, Started, kindOf}
 
 -- "each host using only context numbers that a Start answered to it". A call carries a context: a Send or a Query in bytes 0 to 3 of its request, a Finish
 -- in bytes 4 to 7. A request too short to carry it uses none.
@@ -33,11 +34,13 @@ abbrev pub AnsweredTo : (host context : ℕ) → History → Type 0
 AnsweredTo host context [] = ⊥
 AnsweredTo host context (x ∷ h) = (kindOf x ≡ Started host context) ⊎ AnsweredTo host context h
 
--- every context that a host uses was answered to it earlier; `past` is what came before
+-- every context that a host uses in the exchange was answered to it earlier; `past` is what came before
+abbrev pub UsesItsOwn : (past : History) → Exchange → Type 0
+UsesItsOwn past x = (host context : ℕ) → Uses (x .event) host context → AnsweredTo host context past
+
+-- so in all of h
 abbrev pub HonestAfter : (past h : History) → Type 0
-HonestAfter past [] = Unit {0}
-HonestAfter past (x ∷ h) =
-    ((host context : ℕ) → Uses (x .event) host context → AnsweredTo host context past) × HonestAfter (x ∷ past) h
+HonestAfter past h = Throughout (λ before x. x ∷ before) UsesItsOwn past h
 
 -- the hosts of the history are honest
 abbrev pub Honest : History → Type 0

@@ -1,8 +1,9 @@
--- Document 01, "The device record": fresh, live, possible. The record itself is declared in src/lib.rt. Here a field is any number; the widths declared
--- there keep the code's in range: contexts at most 4,294,967,295, a passphrase of 32 bytes.
+-- Document 01, "The device record": fresh, live, possible; and the module's whole state. The record itself is declared in src/lib.rt. Here a field is any
+-- number; the widths declared there keep the code's in range: contexts at most 4,294,967,295, a passphrase of 32 bytes.
 -- Assumes nothing.
 use Prim.Native.Nat.{ℕ}
 use mathlib.Core.Bool.{Bool, false, not, _&&_}
+use mathlib.Core.List.{List}
 use Rattle.rules.specs.Tests.{_≤?_, _<?_, _=?_, _implies_, _unless_}
 use Rattle.rules.specs.Bytes.{zeros, zeros?}
 use Rattle.rules.specs.Numbers.{areaSize, verification, attemptLimit}
@@ -34,6 +35,10 @@ fresh =
       security = record { enabled = false; locked = false; frozen = false; attempts = 0; passphrase = zeros 32 };
     }
 
+-- "contexts given out so far": how many numbers have been given, which is the last one given too, for they begin at 1
+abbrev pub given : Transfer → ℕ
+given t = t .contexts
+
 -- "The current context is the last one given out,"
 abbrev pub current : Transfer → ℕ
 current t = t .contexts
@@ -46,7 +51,7 @@ live t context = not (t .phase is Idle) && context =? current t
 -- elsewhere; staged version is 0 outside Staged;"
 unfoldable pub possibleTransfer : Transfer → Bool
 possibleTransfer t =
-    (1 ≤? t .contexts unless t .phase is Idle)
+    (1 ≤? current t unless t .phase is Idle)
     && (t .received ≤? areaSize)
     && (t .phase is Idle implies t .received =? 0)
     && (t .phase is Verifying implies (1 ≤? t .ticks && t .ticks ≤? verification))
@@ -66,3 +71,19 @@ possibleThresholds h = (h .enable <? 8) && (h .spare ≤? 100)
 
 unfoldable pub possible : Device → Bool
 possible d = possibleTransfer (d .transfer) && possibleSecurity (d .security) && possibleThresholds (d .thresholds)
+
+-- A module's whole state, "device record, staging area": what an event finds, and what it leaves.
+pub record Module : Type 0 where
+  pub device : Device
+  pub area : List ℕ
+
+-- the two as one: the code is lent the area beside the record
+abbrev pub moduleOf : Device → (area : List ℕ) → Module
+moduleOf d area = record { device = d; area = area }
+
+infixl 10 _with-device_ _with-area_
+abbrev pub _with-device_ : Module → Device → Module
+m with-device d = moduleOf d (m .area)
+
+abbrev pub _with-area_ : Module → List ℕ → Module
+m with-area area = moduleOf (m .device) area

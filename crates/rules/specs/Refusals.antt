@@ -8,7 +8,7 @@ use Rattle.rules.specs.Tests.{if_then_else_, _=?_, _<?_}
 use Rattle.rules.specs.Bytes.{le, zeros, splice}
 use Rattle.rules.specs.Numbers.{areaSize, answerRoom}
 use Rattle.rules.specs.With.{_with-attempts_, _with-security_}
-use Rattle.rules.specs.Record.{possible}
+use Rattle.rules.specs.Record.{possible, Module, _with-device_}
 use Rattle.rules.specs.declared.Refusal.{Refusal}
 use Rattle.rules.specs.declared.Refusal.the-variants.{R}
 use Rattle.rules.specs.declared.Verdict.{Verdict}
@@ -38,8 +38,8 @@ abbrev pub R3Check : Device → Check
 R3Check d = not (possible d) gives R 3
 
 -- Every event makes these two checks. "Ticks and power cycles can give R2 and R3 only."
-abbrev pub eventChecks : Device → List ℕ → List Check
-eventChecks d area = R2Check area ∷ R3Check d ∷ []
+abbrev pub eventChecks : Module → List Check
+eventChecks m = R2Check (m .area) ∷ R3Check (m .device) ∷ []
 
 -- "A call is refused if it gives an R number or a nonzero status; every other call is accepted, function 0 among them."
 abbrev pub refused? : Verdict → Bool
@@ -70,3 +70,7 @@ oneAttemptMore d = d with-security (d .security with-attempts (d .security .atte
 -- the record that a status leaves
 abbrev pub recordLeft : (status : ℕ) → Device → Device
 recordLeft status d = if status =? 11 then oneAttemptMore d else d
+
+-- the module that it leaves
+abbrev pub moduleLeft : (status : ℕ) → Module → Module
+moduleLeft status m = m with-device (recordLeft status (m .device))

@@ -10,8 +10,8 @@ use Rattle.rules.specs.Tests.{if_then_else_, _=?_}
 use Rattle.rules.specs.Bytes.{zeros}
 use Rattle.rules.specs.Text.{ascii, field}
 use Rattle.rules.specs.Numbers.{areaSize, answerRoom}
-use Rattle.rules.specs.Record.{fresh}
-use Rattle.rules.specs.Module.{Module, Result, after, callResult, tickResult, powerResult}
+use Rattle.rules.specs.Record.{fresh, given, Module, moduleOf}
+use Rattle.rules.specs.Module.{Result, callResult, tickResult, powerResult}
 use Rattle.rules.specs.Log.{entryOf, requestIn, recordsIn, recordAt, shortTail}
 use Rattle.rules.specs.declared.Phase.{Phase}
 use Rattle.rules.specs.declared.Phase.the-variants.{Idle, Receiving, Verifying, Staged, Failed}
@@ -25,17 +25,17 @@ use Rattle.rules.specs.declared.Entry.the-variants.{Call, Tick, Power, B
 
 -- "Replay starts from a fresh module and an area of zeros"
 abbrev pub replayStart : Module
-replayStart = record { device = fresh; area = zeros areaSize }
+replayStart = moduleOf fresh (zeros areaSize)
 
 -- a log record's call, lent an answer buffer of 64 zeros (A34)
 abbrev pub replayCall : Module → (revision index : ℕ) (request : List ℕ) → Result
-replayCall m revision index request = callResult (m .device) (m .area) revision index request (zeros answerRoom)
+replayCall m revision index request = callResult m revision index request (zeros answerRoom)
 
 -- the module after a log record
 abbrev pub played : Module → Entry → (request : List ℕ) → Module
-played m (Call host revision index size) request = after (replayCall m revision index request)
-played m Tick request = after (tickResult (m .device) (m .area))
-played m Power request = after (powerResult (m .device) (m .area))
+played m (Call host revision index size) request = replayCall m revision index request .after
+played m Tick request = tickResult m .after
+played m Power request = powerResult m .after
 played m Bad request = m
 
 -- The two numbers of a call's line. A replay never gives an R number (A33), so that the two lines with R are never used.
@@ -95,7 +95,7 @@ phaseName Staged = "staged"
 phaseName Failed = "failed"
 
 abbrev pub lastLine : Device → List ℕ
-lastLine d = ascii "end " ++ ascii (phaseName (d .transfer .phase)) ++ ascii " " ++ field (d .transfer .contexts) "\n"
+lastLine d = ascii "end " ++ ascii (phaseName (d .transfer .phase)) ++ ascii " " ++ field (given (d .transfer)) "\n"
 
 -- The text of a whole log.
 unfoldable pub replayText : (log : List ℕ) → List ℕ

@@ -5,7 +5,7 @@ use mathlib.Core.Path.{_≡_}
 use mathlib.Core.Bool.{Bool, false}
 use mathlib.Core.List.{List, [], _∷_, _++_}
 use Rattle.rules.specs.Tests.{_=?_}
-use Rattle.rules.specs.History.{only, except, _and-then_}
+use Rattle.rules.specs.History.{only, except, total, _and-then_}
 use Rattle.rules.specs.Transfers.{Exchange, History, Kind, Started, Sent, Finished, Ticked, Powered, Other, kindOf}
 
 -- A transfer goes by its context, which is never given again. Its own Sends are those with its context.
@@ -78,8 +78,7 @@ tickCount Other = 0
 
 -- how many ticks a history has
 abbrev pub ticksIn : History → ℕ
-ticksIn [] = 0
-ticksIn (x ∷ h) = tickCount (kindOf x) + ticksIn h
+ticksIn h = total (λ x. tickCount (kindOf x)) h
 
 -- one for a power cycle
 abbrev pub powerCount : Kind → ℕ
@@ -92,5 +91,4 @@ powerCount Other = 0
 
 -- how many power cycles a history has
 abbrev pub powerCycles : History → ℕ
-powerCycles [] = 0
-powerCycles (x ∷ h) = powerCount (kindOf x) + powerCycles h
+powerCycles h = total (λ x. powerCount (kindOf x)) h

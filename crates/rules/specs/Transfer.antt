@@ -8,7 +8,7 @@ use Rattle.rules.specs.Tests.{if_then_else_, _<?_, _=?_}
 use Rattle.rules.specs.Bytes.{le, numberAt, zeros, splice}
 use Rattle.rules.specs.Numbers.{areaSize, longestPiece, verification, tickMicroseconds, lastContext}
 use Rattle.rules.specs.With.{_with-phase_, _with-contexts_, _with-received_, _with-ticks_, _with-running_, _with-staged_}
-use Rattle.rules.specs.Record.{_is_, current, live}
+use Rattle.rules.specs.Record.{_is_, given, current, live}
 use Rattle.rules.specs.Refusals.{Check, _gives_}
 use Rattle.rules.specs.Image.{imageOf}
 use Rattle.rules.specs.declared.Refusal.the-variants.{Status}
@@ -43,16 +43,16 @@ abbrev pub startChecks : Transfer → List Check
 startChecks t =
     (t .phase is Receiving || t .phase is Verifying gives Status 7 1)
     ∷ (t .phase is Staged gives Status 7 2)
-    ∷ (t .contexts =? lastContext gives Status 8 0)
+    ∷ (given t =? lastContext gives Status 8 0)
     ∷ []
 
 -- "Else the next number is given, received is 0, phase Receiving;" "Numbers .. are never given again": `NeverAgain` in Demand3.antt says it of histories.
 abbrev pub startChange : Transfer → Transfer
-startChange t = t with-contexts (t .contexts + 1) with-received 0 with-phase Receiving
+startChange t = t with-contexts (given t + 1) with-received 0 with-phase Receiving
 
 -- "the answer carries the context."
 abbrev pub startAnswer : Transfer → List ℕ
-startAnswer t = le 4 (t .contexts + 1)
+startAnswer t = le 4 (given t + 1)
 
 -- "Send: context (4), offset (4), length (4), piece." "The piece starts at byte 12 of the request;"
 abbrev pub sendOf : (request : List ℕ) → TransferCall

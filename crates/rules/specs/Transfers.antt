@@ -2,14 +2,15 @@
 -- Assumes nothing.
 use Prim.Native.Nat.{ℕ}
 use mathlib.Core.Path.{_≡_}
-use mathlib.Core.List.{List, [], _∷_, _++_}
+use mathlib.Core.List.{List, [], _++_}
 use lib.ListN.{length}
 use Rattle.rules.specs.Tests.{if_then_else_}
 use Rattle.rules.specs.Bytes.{numberAt}
 use Rattle.rules.specs.Refusals.{refused?}
 use Rattle.rules.specs.Transfer.{GetFwInfo, Start, Send, Finish, Query}
-use Rattle.rules.specs.Module.{Call, OnMask, OnThresholds, OnTransfer, OnSecurity, OnNothing, callIn, Module, Event, call, tick, power, outOf, after}
-use Rattle.rules.specs.History.{Machine, ExchangeOf}
+use Rattle.rules.specs.Record.{Module}
+use Rattle.rules.specs.Module.{Call, OnMask, OnThresholds, OnTransfer, OnSecurity, OnNothing, callIn, Event, call, tick, power, step}
+use Rattle.rules.specs.History.{Machine, ExchangeOf, Throughout}
 use Rattle.rules.specs.declared.Reply.{Reply}
 
 -- What an event is answered: the reply, and the whole answer buffer afterwards.
@@ -21,8 +22,8 @@ pub record Answer : Type 0 where
 abbrev pub machine : Machine Module Event Answer
 machine =
     record {
-      answer = λ m event. record { reply = outOf m event .reply; buffer = outOf m event .answer };
-      next = λ m event. after (outOf m event);
+      answer = λ m event. record { reply = step m event .reply; buffer = step m event .answer };
+      next = λ m event. step m event .after;
     }
 
 -- an exchange with the module
@@ -107,10 +108,13 @@ InOrder now Ticked = Unit {0}
 InOrder now Powered = Unit {0}
 InOrder now Other = Unit {0}
 
+-- which transfer is open after an exchange
+abbrev pub openNext : Open → Exchange → Open
+openNext now x = openAfter now (kindOf x)
+
 -- every exchange comes in order
 abbrev pub AllInOrder : Open → History → Type 0
-AllInOrder now [] = Unit {0}
-AllInOrder now (x ∷ h) = InOrder now (kindOf x) × AllInOrder (openAfter now (kindOf x)) h
+AllInOrder now h = Throughout openNext (λ o x. InOrder o (kindOf x)) now h
 
 -- the host is the one that started the open transfer; where none is open, never
 abbrev pub StarterIs : Open → (host : ℕ) → Type 0
@@ -128,5 +132,4 @@ ByStarter now Other = Unit {0}
 
 -- every Send and every Finish of the history is
 abbrev pub AllByStarter : Open → History → Type 0
-AllByStarter now [] = Unit {0}
-AllByStarter now (x ∷ h) = ByStarter now (kindOf x) × AllByStarter (openAfter now (kindOf x)) h
+AllByStarter now h = Throughout openNext (λ o x. ByStarter o (kindOf x)) now h

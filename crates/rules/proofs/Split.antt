@@ -11,7 +11,8 @@ use Rattle.rules.specs.Table.{rowOf, served?, fits?, mask}
 use Rattle.rules.specs.Thresholds.{ThresholdCall, thresholdChecks, thresholdAnswer, thresholdChange}
 use Rattle.rules.specs.Transfer.{TransferCall, transferChecks, transferAnswer, transferChange, transferArea, tickChange, transferPower}
 use Rattle.rules.specs.Security.{SecurityCall, securityChecks, securityAnswer, securityChange, securityPower}
-use Rattle.rules.specs.Module.{Call, OnMask, OnThresholds, OnTransfer, OnSecurity, OnNothing, Module, Event, call, tick, power, reply, callIn}
+use Rattle.rules.specs.Record.{Module}
+use Rattle.rules.specs.Module.{Call, OnMask, OnThresholds, OnTransfer, OnSecurity, OnNothing, Event, call, tick, power, reply, callIn}
 use Rattle.rules.specs.History.{Machine}
 use Rattle.rules.specs.Transfers.{Answer, Kind, Ticked, Powered, Other, callKind}
 use Rattle.rules.specs.declared.Refusal.the-variants.{R, Status}
@@ -22,7 +23,7 @@ use Rattle.rules.specs.declared.Thresholds.{Thresholds}
 use Rattle.rules.specs.declared.Security.{Security}
 
 -- what a transfer uses; the rest
-pub record Store : Type 0 where
+pub record TransferPart : Type 0 where
   pub transfer : Transfer
   pub area : List ℕ
 
@@ -30,13 +31,13 @@ pub record Rest : Type 0 where
   pub thresholds : Thresholds
   pub security : Security
 
-abbrev pub storeOf : Module → Store
-storeOf m = record { transfer = m .device .transfer; area = m .area }
+abbrev pub partOf : Module → TransferPart
+partOf m = record { transfer = m .device .transfer; area = m .area }
 
 abbrev pub restOf : Module → Rest
 restOf m = record { thresholds = m .device .thresholds; security = m .device .security }
 
-abbrev pub join : Store → Rest → Module
+abbrev pub join : TransferPart → Rest → Module
 join s r = record { device = record { transfer = s .transfer; thresholds = r .thresholds; security = r .security }; area = s .area }
 
 -- a call that touches the rest alone
@@ -88,27 +89,27 @@ answerBy (Refused (Status status ext)) n bytes answer =
     record { reply = reply (Refused (Status status ext)) (statusLength status n); buffer = answerAfter (statusAnswer status ext n) answer }
 
 -- a transfer call
-abbrev pub storeVerdict : Store → (unserved misfit : Bool) → TransferCall → Verdict
-storeVerdict s a b x = verdict (front a b ++ transferChecks (s .transfer) x)
+abbrev pub partVerdict : TransferPart → (unserved misfit : Bool) → TransferCall → Verdict
+partVerdict s a b x = verdict (front a b ++ transferChecks (s .transfer) x)
 
-abbrev pub storeChange : Store → TransferCall → Store
-storeChange s x = record { transfer = transferChange (s .transfer) x; area = transferArea x (s .area) }
+abbrev pub partChange : TransferPart → TransferCall → TransferPart
+partChange s x = record { transfer = transferChange (s .transfer) x; area = transferArea x (s .area) }
 
-abbrev pub storeAfter : Verdict → Store → TransferCall → Store
-storeAfter Accepted s x = storeChange s x
-storeAfter (Refused refusal) s x = s
+abbrev pub partAfter : Verdict → TransferPart → TransferCall → TransferPart
+partAfter Accepted s x = partChange s x
+partAfter (Refused refusal) s x = s
 
-abbrev pub storeAnswer : Store → (unserved misfit : Bool) (x : TransferCall) (n : ℕ) (answer : List ℕ) → Answer
-storeAnswer s a b x n answer = answerBy (storeVerdict s a b x) n (statusBytes 0 0 ++ transferAnswer (s .transfer) x) answer
+abbrev pub partAnswer : TransferPart → (unserved misfit : Bool) (x : TransferCall) (n : ℕ) (answer : List ℕ) → Answer
+partAnswer s a b x n answer = answerBy (partVerdict s a b x) n (statusBytes 0 0 ++ transferAnswer (s .transfer) x) answer
 
-abbrev pub storeNext : Store → (unserved misfit : Bool) → TransferCall → Store
-storeNext s a b x = storeAfter (storeVerdict s a b x) s x
+abbrev pub partNext : TransferPart → (unserved misfit : Bool) → TransferCall → TransferPart
+partNext s a b x = partAfter (partVerdict s a b x) s x
 
-abbrev pub storeTick : Store → Store
-storeTick s = record { transfer = tickChange (s .transfer) (s .area); area = s .area }
+abbrev pub partTick : TransferPart → TransferPart
+partTick s = record { transfer = tickChange (s .transfer) (s .area); area = s .area }
 
-abbrev pub storePower : Store → Store
-storePower s = record { transfer = transferPower (s .transfer); area = s .area }
+abbrev pub partPower : TransferPart → TransferPart
+partPower s = record { transfer = transferPower (s .transfer); area = s .area }
 
 -- a call on the rest
 abbrev pub restChecks : Rest → RestCall → List Check
@@ -151,16 +152,16 @@ abbrev pub done : Answer
 done = record { reply = reply Accepted 0; buffer = [] }
 
 abbrev pub answers : Module → Act → Answer
-answers m (Transfers host a b x n answer) = storeAnswer (storeOf m) a b x n answer
+answers m (Transfers host a b x n answer) = partAnswer (partOf m) a b x n answer
 answers m (Others a b x n answer) = restAnswer (restOf m) a b x n answer
 answers m Ticks = done
 answers m Powers = done
 
 abbrev pub nexts : Module → Act → Module
-nexts m (Transfers host a b x n answer) = join (storeNext (storeOf m) a b x) (restOf m)
-nexts m (Others a b x n answer) = join (storeOf m) (restNext (restOf m) a b x)
-nexts m Ticks = join (storeTick (storeOf m)) (restOf m)
-nexts m Powers = join (storePower (storeOf m)) (restPower (restOf m))
+nexts m (Transfers host a b x n answer) = join (partNext (partOf m) a b x) (restOf m)
+nexts m (Others a b x n answer) = join (partOf m) (restNext (restOf m) a b x)
+nexts m Ticks = join (partTick (partOf m)) (restOf m)
+nexts m Powers = join (partPower (partOf m)) (restPower (restOf m))
 
 abbrev pub inner : Machine Module Event Answer
 inner = record { answer = λ m event. answers m (act event); next = λ m event. nexts m (act event) }
