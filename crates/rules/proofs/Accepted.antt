@@ -14,10 +14,11 @@ use Rattle.rules.specs.declared.Verdict.the-variants.{Accepted}
 use Rattle.rules.specs.declared.Transfer.{Transfer}
 use Rattle.rules.proofs.Choice.{or-false}
 use Rattle.rules.proofs.Passed.{passed}
+use Rattle.rules.specs.Record.{given}
 
 -- a Start that is accepted: a number is left to give
-pub start-left : (t : Transfer) → verdict (startChecks t) ≡ Accepted → t .contexts ≡ lastContext → ⊥
-start-left t e = eqb-false (t .contexts) lastContext (passed (startChecks t) e .1 .1 .0)
+pub start-left : (t : Transfer) → verdict (startChecks t) ≡ Accepted → given t ≡ lastContext → ⊥
+start-left t e = eqb-false (given t) lastContext (passed (startChecks t) e .1 .1 .0)
 
 -- a Send that is accepted: its length is that of its piece, it ends inside the area, and it goes on where the last one stopped
 pub record SendFits (t : Transfer) (offset size : ℕ) (piece : List ℕ) : Type 0 where

@@ -1,7 +1,6 @@
 -- Demand 3: the theorem, and what of it holds from every sound module.
 -- Assumes nothing.
 use mathlib.Core.Path.{_≡_, refl, sym, _∙_, ap, subst}
-use mathlib.Core.List.{[]}
 use Rattle.rules.specs.Record.{Module}
 use Rattle.rules.specs.Module.{Event, tick}
 use Rattle.rules.specs.History.{historyOf, end, All}
@@ -22,6 +21,7 @@ use Rattle.rules.proofs.Stage.{Ripe, stages-ripe, ripe-stages, staged-o
 use Rattle.rules.proofs.Due.{bytesOf, ripe-due, due-ripe, due-sent}
 use Rattle.rules.proofs.Waits.{one-waits}
 use Rattle.rules.proofs.Again.{never-again}
+use mathlib.Core.List.{[]}
 
 -- From every sound module, and with hosts that use any context.
 pub from-anywhere : DemandFromAnywhere

@@ -3,7 +3,7 @@
 use Prim.Native.Nat.{ℕ, _+_, _-_, _≤_, _<_}
 use mathlib.Core.Path.{_≡_, refl, sym, _∙_, ap, subst}
 use mathlib.Core.Bool.{Bool, true, false}
-use mathlib.Core.List.{List, [], _∷_, _++_, append-assoc, append-nil}
+use mathlib.Core.List.{[], List, _∷_, _++_, append-assoc, append-nil}
 use native.Mathlib.Omega.{arith}
 use borrow.Author.Tests.{eqb-true}
 use Rattle.rules.specs.Tests.{if_then_else_, _=?_}
@@ -12,22 +12,22 @@ use Rattle.rules.specs.With.{_with-ticks_, _with-phase_, _with-received_
 use Rattle.rules.specs.Record.{_is_, Module}
 use Rattle.rules.specs.Image.{imageOf}
 use Rattle.rules.specs.Transfer.{GetFwInfo, Start, Send, Finish, Query, receivedBytes}
-use Rattle.rules.specs.History.{Plays, end, All}
-use Rattle.rules.specs.Transfers.{Answer, Exchange, History, Kind, Finished, Ticked, Other, kindOf, Open, none, by, bytesSoFar, ContextIs, InOrder, AllInOrder}
+use Rattle.rules.specs.History.{Plays, end, All, afterExchange}
+use Rattle.rules.specs.Transfers.{Answer, Exchange, History, Kind, Finished, Ticked, Other, kindOf, Open, none, by, bytesSoFar, ContextIs, InOrder, AllInOrder, openNext}
 use Rattle.rules.specs.Sends.{ownSends, pieces, FinishedIn, tickCount, ticksIn, powerCount, powerCycles}
 use Rattle.rules.specs.Demand3.{remains, Sound, Due}
 use Rattle.rules.specs.declared.Phase.{Phase}
 use Rattle.rules.specs.declared.Phase.the-variants.{Idle, Verifying}
 use Rattle.rules.specs.declared.Transfer.{Transfer}
-use Rattle.rules.proofs.Joining.{plays-right, end-join}
-use Rattle.rules.proofs.Split.{TransferPart, partOf, Act, Transfers, Others, Ticks, Powers, act, partChange, partNext, partTick, answers, nexts, inner, actKind}
+use Rattle.rules.proofs.Joining.{plays-right, end-join, counted-along, total-join, leads-join, throughout-left, total-none}
+use Rattle.rules.proofs.Split.{TransferPart, partOf, Act, Transfers, Others, Ticks, Powers, act, partChange, partNext, partTick, answers, nexts, inner, actKind, _with-part_}
 use Rattle.rules.proofs.Through.{kind-act}
 use Rattle.rules.proofs.Facts.{never, Kept, accepted-call, changes, send-ok, finish-ok, Tick, calm, counting, good, bad, tick-case}
 use Rattle.rules.proofs.Possible.{sound-act}
 use Rattle.rules.proofs.Gate.{Remains}
 use Rattle.rules.proofs.KindOf.{good-accepted, accepted-good, FinishAct, finished-act}
 use Rattle.rules.proofs.Order.{openAtEnd, Fits, goes, orders, chosen, bytes-open}
-use Rattle.rules.proofs.Pieces.{open-join, orders-left, AtFinish, at-finish, Opened, opened}
+use Rattle.rules.proofs.Pieces.{AtFinish, at-finish, Opened, opened}
 use Rattle.rules.proofs.Stage.{Ripe, quiet, busy, no-tick}
 
 abbrev pub bytesOf : TransferPart → List ℕ
@@ -39,12 +39,14 @@ pub record Held (s u : TransferPart) (n : ℕ) : Type 0 where
   pub count : u .transfer .ticks + n ≡ s .transfer .ticks
   pub bytes : bytesOf u ≡ bytesOf s
 
-held-tick : (s : TransferPart) → s .transfer .phase ≡ Verifying → 1 < s .transfer .ticks → Tick (s .transfer) (s .area) → Held s (partTick s) 1
-held-tick s p l (calm n e) = never (sym (ap (λ (z : Phase). z is Verifying) p) ∙ n)
-held-tick s p l (counting q k e) =
-    subst (λ (t : Transfer). Held s (record { transfer = t; area = s .area }) 1) (sym e) (record { at = p; count = omega arith; bytes = refl })
-held-tick s p l (good version q k i e) = absurd (omega arith)
-held-tick s p l (bad q k i e) = absurd (omega arith)
+held-tick : (s : TransferPart) → s .transfer .phase ≡ Verifying → 1 < s .transfer .ticks → Held s (partTick s) 1
+held-tick s p l = go (tick-case (s .transfer) (s .area))
+  where
+    go : Tick (s .transfer) (s .area) → Held s (partTick s) 1
+    go (calm n e) = never (sym (ap (λ (z : Phase). z is Verifying) p) ∙ n)
+    go (counting q k e) = subst (λ (t : Transfer). Held s (s with-part t) 1) (sym e) (record { at = p; count = omega arith; bytes = refl })
+    go (good version q k i e) = absurd (omega arith)
+    go (bad q k i e) = absurd (omega arith)
 
 held-act : (m : Module) (f : Act) (got : Answer) → m .device .transfer .phase ≡ Verifying → powerCount (actKind f got) ≡ 0 → tickCount (actKind f got) < m .device .transfer .ticks
     → Held (partOf m) (partOf (nexts m f)) (tickCount (actKind f got))
@@ -52,18 +54,23 @@ held-act m (Transfers host a b x n answer) got p z l =
     subst (λ (u : TransferPart). Held (partOf m) u (tickCount (actKind (Transfers host a b x n answer) got))) (sym (quiet (partOf m) a b x (ap busy p)))
     (record { at = p; count = omega (arith, no-tick host x got); bytes = refl })
 held-act m (Others a b x n answer) got p z l = record { at = p; count = omega arith; bytes = refl }
-held-act m Ticks got p z l = held-tick (partOf m) p l (tick-case (m .device .transfer) (m .area))
+held-act m Ticks got p z l = held-tick (partOf m) p l
 held-act m Powers got p z l = absurd (omega arith)
 
-pub held : (m : Module) (h : History) → m .device .transfer .phase ≡ Verifying → powerCycles h ≡ 0 → ticksIn h < m .device .transfer .ticks → Held (partOf m) (partOf (end inner m h)) (ticksIn h)
-held m [] p z l = record { at = p; count = omega arith; bytes = refl }
-held m (x ∷ h) p z l =
+-- one exchange more
+held-step : (s : TransferPart) (n : ℕ) (m : Module) (x : Exchange) → powerCount (kindOf x) ≡ 0 → (n < s .transfer .ticks → Held s (partOf m) n)
+    → n + tickCount (kindOf x) < s .transfer .ticks → Held s (partOf (inner .next m (x .event))) (n + tickCount (kindOf x))
+held-step s n m x z w l =
     let e = kind-act x in
-    let a : Held (partOf m) (partOf (inner .next m (x .event))) (tickCount (kindOf x)) =
-    subst (λ (k : Kind). Held (partOf m) (partOf (inner .next m (x .event))) (tickCount k)) (sym e)
-    (held-act m (act (x .event)) (x .got) p (omega (arith, ap powerCount e)) (omega (arith, ap tickCount e))) in
-    let b : Held (partOf (inner .next m (x .event))) (partOf (end inner m (x ∷ h))) (ticksIn h) = held (inner .next m (x .event)) h (a .at) (omega arith) (omega (arith, a .count)) in
-    record { at = b .at; count = omega (arith, a .count, b .count); bytes = b .bytes ∙ a .bytes }
+    let a = w (omega arith) in
+    let b = held-act m (act (x .event)) (x .got) (a .at) (omega (arith, z, ap powerCount e)) (omega (arith, l, a .count, ap tickCount e)) in
+    record { at = b .at; count = omega (arith, a .count, b .count, ap tickCount e); bytes = b .bytes ∙ a .bytes }
+
+pub held : (m : Module) (h : History) → m .device .transfer .phase ≡ Verifying → powerCycles h ≡ 0 → ticksIn h < m .device .transfer .ticks → Held (partOf m) (partOf (end inner m h)) (ticksIn h)
+held m h p z l =
+    counted-along (afterExchange inner) (λ x. tickCount (kindOf x)) (λ x. powerCount (kindOf x) ≡ 0) (λ n u. n < m .device .transfer .ticks → Held (partOf m) (partOf u) n)
+    (λ n u x q w. held-step (partOf m) n u x q w) m h (total-none (λ x. powerCount (kindOf x)) h z)
+    (λ k. record { at = p; count = omega arith; bytes = refl }) l
 
 -- what an accepted Finish without abort leaves
 pub after-finish : (m : Module) (x : Exchange) (host context : ℕ) → kindOf x ≡ Finished host context 0 → inner .answer m (x .event) ≡ x .got
@@ -92,14 +99,6 @@ record Waiting (h : History) (s : TransferPart) : Type 0 where
 Watch : History → TransferPart → Type 0
 Watch h s = s .transfer .phase ≡ Verifying → Waiting h s
 
-ticks-snoc : (h : History) (x : Exchange) → ticksIn (h ++ (x ∷ [])) ≡ ticksIn h + tickCount (kindOf x)
-ticks-snoc [] x = omega arith
-ticks-snoc (y ∷ h) x = omega (arith, ticks-snoc h x)
-
-powers-snoc : (h : History) (x : Exchange) → powerCycles (h ++ (x ∷ [])) ≡ powerCycles h + powerCount (kindOf x)
-powers-snoc [] x = omega arith
-powers-snoc (y ∷ h) x = omega (arith, powers-snoc h x)
-
 -- one exchange more, which is no power cycle
 longer : (h : History) (s u : TransferPart) (x : Exchange) → Waiting h s → powerCount (kindOf x) ≡ 0 → bytesOf u ≡ bytesOf s → tickCount (kindOf x) + u .transfer .ticks ≡ s .transfer .ticks → 1 ≤ u .transfer .ticks
     → Waiting (h ++ (x ∷ [])) u
@@ -114,9 +113,9 @@ longer h s u x w n b l m =
       finishes = w .finishes;
       of-open = w .of-open;
       bytes = b ∙ w .bytes;
-      count = omega (arith, ticks-snoc (w .since) x, w .count);
+      count = omega (arith, total-join (λ y. tickCount (kindOf y)) (w .since) (x ∷ []), w .count);
       some = m;
-      no-power = omega (arith, powers-snoc (w .since) x, w .no-power);
+      no-power = omega (arith, total-join (λ y. powerCount (kindOf y)) (w .since) (x ∷ []), w .no-power);
     }
 
 -- the same store, one exchange more
@@ -194,7 +193,7 @@ watch before m (x ∷ h) s o w p k =
     let w′ = watch-act before x m (act (x .event)) (kind-act x) o (g .order) w (p .0) (k .0) in
     subst (λ (z : History). Watch z (partOf (end inner m (x ∷ h)))) (append-assoc before (x ∷ []) h)
     (watch (before ++ (x ∷ [])) (inner .next m (x .event)) h (sound-act m (act (x .event)) s)
-    (subst (λ (z : Open). Fits z (partOf (inner .next m (x .event)))) (sym (open-join none before (x ∷ []))) (g .fits)) w′ (p .1) (k .1))
+    (subst (λ (z : Open). Fits z (partOf (inner .next m (x .event)))) (sym (leads-join openNext none before (x ∷ []))) (g .fits)) w′ (p .1) (k .1))
 
 -- The transfer that is waiting, from its Start
 due-from : (h : History) (s : TransferPart) (version : ℕ) → AllInOrder none h → Waiting h s → Ripe s version → Due h version
@@ -203,7 +202,7 @@ due-from h s version t w r = go (openAtEnd none (w .before)) refl (w .of-open) (
     go : (o : Open) → openAtEnd none (w .before) ≡ o → ContextIs o (w .context) → bytesOf s ≡ bytesSoFar o → Due h version
     go none e of b = absurd of
     go (by host c bytes) e of b =
-        let p : Opened (w .before) host c bytes = opened (w .before) host c bytes (orders-left none (w .before) (w .finish ∷ w .since) (subst (λ (z : History). AllInOrder none z) (w .whole) t)) e in
+        let p : Opened (w .before) host c bytes = opened (w .before) host c bytes (throughout-left openNext (λ o x. InOrder o (kindOf x)) none (w .before) (w .finish ∷ w .since) (subst (λ (z : History). AllInOrder none z) (w .whole) t)) e in
         record {
           transfer = record {
             before = p .before;

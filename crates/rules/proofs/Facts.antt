@@ -8,7 +8,7 @@ use lib.ListN.{length}
 use borrow.Author.Tests.{ltb-true, ltb-false, eqb-true, eqb-false, not-false}
 use Rattle.rules.specs.Tests.{if_then_else_, _=?_, _<?_}
 use Rattle.rules.specs.Numbers.{areaSize, longestPiece, lastContext}
-use Rattle.rules.specs.Record.{_is_, phaseNumber, current}
+use Rattle.rules.specs.Record.{_is_, phaseNumber, current, given}
 use Rattle.rules.specs.Refusals.{verdict, statusBytes}
 use Rattle.rules.specs.With.{_with-ticks_, _with-phase_, _with-staged_}
 use Rattle.rules.specs.Image.{imageOf}
@@ -82,14 +82,14 @@ pub record StartOk (t : Transfer) : Type 0 where
   pub not-receiving : (t .phase is Receiving) ≡ false
   pub not-verifying : (t .phase is Verifying) ≡ false
   pub not-staged : (t .phase is Staged) ≡ false
-  pub left : t .contexts ≡ lastContext → ⊥
+  pub left : given t ≡ lastContext → ⊥
 
 pub start-ok : (s : TransferPart) (a b : Bool) → partVerdict s a b Start ≡ Accepted → StartOk (s .transfer)
 start-ok s a b v =
     let t : Transfer = s .transfer in
     let w : AllFalse (front a b ++ transferChecks t Start) = passed (front a b ++ transferChecks t Start) v in
     let q = or-false (t .phase is Receiving) (t .phase is Verifying) (w .1 .1 .0) in
-    record { not-receiving = q .0; not-verifying = q .1; not-staged = w .1 .1 .1 .0; left = eqb-false (t .contexts) lastContext (w .1 .1 .1 .1 .0) }
+    record { not-receiving = q .0; not-verifying = q .1; not-staged = w .1 .1 .1 .0; left = eqb-false (given t) lastContext (w .1 .1 .1 .1 .0) }
 
 pub record SendOk (t : Transfer) (context offset size : ℕ) (piece : List ℕ) : Type 0 where
   pub at : t .phase ≡ Receiving

@@ -4,7 +4,7 @@ use mathlib.Core.Path.{_≡_, refl, sym, _∙_, ap, subst}
 use mathlib.Core.Bool.{Bool, true, false, false≢true}
 use mathlib.Core.List.{[], _∷_}
 use Rattle.rules.specs.Record.{Module}
-use Rattle.rules.specs.History.{Plays, end, All, Same}
+use Rattle.rules.specs.History.{Plays, end, All, Same, afterExchange}
 use Rattle.rules.specs.Transfers.{Answer, machine, Exchange, History}
 use Rattle.rules.specs.Demand3.{remains, Sound}
 use Rattle.rules.proofs.Split.{act, inner}
@@ -12,6 +12,7 @@ use Rattle.rules.proofs.Through.{Through, shut}
 use Rattle.rules.specs.Demand1.{bufferTooShort}
 use Rattle.rules.proofs.Facts.{Kept}
 use Rattle.rules.proofs.Possible.{sound-act, sound-through}
+use Rattle.rules.proofs.Joining.{kept-along}
 
 -- the exchange remains; its answer buffer is long enough
 abbrev pub Remains : Exchange → Type 0
@@ -52,8 +53,7 @@ outwards m (x ∷ h) w p r =
     record { plays = (t .answers-as ∙ p .0, subst (λ (u : Module). Plays machine u h) (sym (t .nexts-as)) (i .plays)); ends = ap (λ (u : Module). end machine u h) (t .nexts-as) ∙ i .ends }
 
 pub sound-inner : (m : Module) (h : History) → Sound m → Sound (end inner m h)
-sound-inner m [] w = w
-sound-inner m (x ∷ h) w = sound-inner (inner .next m (x .event)) h (sound-act m (act (x .event)) w)
+sound-inner m h w = kept-along (afterExchange inner) Sound (λ u x s. sound-act u (act (x .event)) s) m h w
 
 -- what is the same without the R numbers is the same with them
 pub same-outward : (m : Module) (h k : History) → Sound m → Plays machine m h → All Remains h → All Roomy k → Same inner m h k → Same machine m h k

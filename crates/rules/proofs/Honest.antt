@@ -4,7 +4,7 @@ use Prim.Native.Nat.{ℕ, _≤_}
 use mathlib.Core.Path.{_≡_, refl, sym, _∙_}
 use mathlib.Core.Logic.{inl, inr}
 use mathlib.Core.Bool.{Bool, true, false, _&&_}
-use mathlib.Core.List.{List, [], _∷_, _++_}
+use mathlib.Core.List.{[], List, _∷_}
 use native.Mathlib.Omega.{arith}
 use lib.ListN.{length}
 use borrow.Author.Tests.{leb-true, eqb-true, not-false}
@@ -147,7 +147,3 @@ honest-after past past′ (x ∷ h) w u =
 
 pub honest-struck : (h : History) → Honest h → Honest (struck h)
 honest-struck h u = honest-after [] [] h (λ host context m. m) u
-
-pub honest-left : (past h k : History) → HonestAfter past (h ++ k) → HonestAfter past h
-honest-left past [] k u = tt
-honest-left past (x ∷ h) k u = (u .0, honest-left (x ∷ past) h k (u .1))

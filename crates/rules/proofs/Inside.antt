@@ -3,13 +3,13 @@
 use Prim.Native.Nat.{ℕ, _+_, _≤_}
 use mathlib.Core.Path.{_≡_, refl, sym, _∙_, ap, subst}
 use mathlib.Core.Logic.{_⊎_, inl, inr}
-use mathlib.Core.Bool.{true, false}
+use mathlib.Core.Bool.{true, false, Bool}
 use mathlib.Core.List.{[], _∷_, _++_}
 use native.Mathlib.Omega.{arith}
 use borrow.Author.Tests.{eq-eqb}
 use Rattle.rules.specs.Tests.{_=?_}
 use Rattle.rules.specs.Record.{_is_, current, Module}
-use Rattle.rules.specs.Transfer.{TransferCall, GetFwInfo, Start, Send, Finish, Query}
+use Rattle.rules.specs.Transfer.{TransferCall, GetFwInfo, Start, Send, Finish, Query, finishChange}
 use Rattle.rules.specs.Module.{Event}
 use Rattle.rules.specs.History.{Plays, end, All, Same}
 use Rattle.rules.specs.Transfers.{Answer, Exchange, History, Started, Finished, kindOf}
@@ -22,47 +22,43 @@ use Rattle.rules.specs.declared.Transfer.{Transfer}
 use Rattle.rules.proofs.Choice.{if-both}
 use Rattle.rules.proofs.Joining.{all-left, plays-left, plays-right, same-cons, same-trans}
 use Rattle.rules.proofs.Swapping.{Either, gather, sink, frees}
-use Rattle.rules.proofs.Split.{TransferPart, partOf, Act, Transfers, Others, Ticks, Powers, act, partVerdict, partChange, partAnswer, partTick, answers, nexts, inner, actKind}
+use Rattle.rules.proofs.Split.{TransferPart, partOf, Act, Transfers, Others, Ticks, Powers, act, partVerdict, partChange, partAnswer, answers, nexts, inner, actKind, givenIn, partPower, _with-part_}
 use Rattle.rules.proofs.Through.{kind-act}
-use Rattle.rules.proofs.Facts.{never, Kept, accepted-call, changes, StartOk, start-ok, send-ok, finish-ok, FinishOk, query-ok, Tick, calm, counting, good, bad, tick-case}
-use Rattle.rules.proofs.Keeps.{part-when}
+use Rattle.rules.proofs.Facts.{never, Kept, accepted-call, changes, StartOk, start-ok, send-ok, finish-ok, FinishOk, query-ok, good}
 use Rattle.rules.proofs.Possible.{sound-act}
 use Rattle.rules.proofs.Gate.{Remains}
 use Rattle.rules.proofs.KindOf.{good-accepted, accepted-good, StartAct, started-act, FinishAct, finished-act, given-number}
 use Rattle.rules.proofs.Swap.{OwnAct, FreeAct, Own, Free, swaps, still}
-
--- the number of contexts given out
-abbrev pub given : TransferPart → ℕ
-given s = s .transfer .contexts
+use Rattle.rules.proofs.Invariant.{Invariant, keeps-end, by-tick}
 
 -- The transfer with the context c is over: no event brings it back
 pub record Gone (c : ℕ) (s : TransferPart) : Type 0 where
-  pub old : c ≤ given s
+  pub old : c ≤ givenIn s
   pub other : (s .transfer .phase is Receiving) ≡ true → c ≡ current (s .transfer) → ⊥
 
-gone-change : (c : ℕ) (s : TransferPart) (x : TransferCall) → Gone c s → Gone c (partChange s x)
-gone-change c s GetFwInfo g = g
-gone-change c s Start g = record { old = omega (arith, g .old); other = λ r e. omega (arith, g .old) }
-gone-change c s (Send context offset size piece) g = record { old = g .old; other = g .other }
-gone-change c s (Finish flag context) g =
-    if-both (λ (t : Transfer). Gone c (record { transfer = t; area = s .area })) (flag =? 0) (record { old = g .old; other = λ r e. never (sym r) }) (record { old = g .old; other = λ r e. never (sym r) })
-gone-change c s (Query context) g = g
+-- nothing is received, and so nothing of c
+stopped : (c : ℕ) (s : TransferPart) → c ≤ givenIn s → (s .transfer .phase is Receiving) ≡ false → Gone c s
+stopped c s old n = record { old = old; other = λ r e. never (sym r ∙ n) }
 
-gone-tick : (c : ℕ) (s : TransferPart) → Gone c s → Tick (s .transfer) (s .area) → Gone c (partTick s)
-gone-tick c s g (calm n e) = subst (λ (t : Transfer). Gone c (record { transfer = t; area = s .area })) (sym e) g
-gone-tick c s g (counting p l e) = subst (λ (t : Transfer). Gone c (record { transfer = t; area = s .area })) (sym e) (record { old = g .old; other = g .other })
-gone-tick c s g (good version p l i e) = subst (λ (t : Transfer). Gone c (record { transfer = t; area = s .area })) (sym e) (record { old = g .old; other = λ r q. never (sym r) })
-gone-tick c s g (bad p l i e) = subst (λ (t : Transfer). Gone c (record { transfer = t; area = s .area })) (sym e) (record { old = g .old; other = λ r q. never (sym r) })
+-- a Finish ends it, abort or not
+gone-finish : (c : ℕ) (s : TransferPart) (flag : ℕ) → c ≤ givenIn s → Gone c (s with-part finishChange (s .transfer) flag)
+gone-finish c s flag old = if-both (λ (t : Transfer). Gone c (s with-part t)) (flag =? 0) (stopped c _ old refl) (stopped c _ old refl)
 
-gone-next : (c : ℕ) (m : Module) (f : Act) → Gone c (partOf m) → Gone c (partOf (nexts m f))
-gone-next c m (Transfers host a b x n answer) g = part-when (Gone c) (partVerdict (partOf m) a b x) (partOf m) x g (λ v. gone-change c (partOf m) x g)
-gone-next c m (Others a b x n answer) g = g
-gone-next c m Ticks g = gone-tick c (partOf m) g (tick-case (m .device .transfer) (m .area))
-gone-next c m Powers g = record { old = g .old; other = λ r e. never (sym r) }
-
-gone-end : (c : ℕ) (m : Module) (h : History) → Gone c (partOf m) → Gone c (partOf (end inner m h))
-gone-end c m [] g = g
-gone-end c m (x ∷ h) g = gone-end c (inner .next m (x .event)) h (gone-next c m (act (x .event)) g)
+gone : (c : ℕ) → Invariant (Gone c)
+gone c =
+    record {
+      change = change;
+      ticked = λ s g.
+          by-tick (Gone c) s g (λ p l. record { old = g .old; other = g .other }) (λ version p. stopped c _ (g .old) refl) (λ p. stopped c _ (g .old) refl);
+      powered = λ s g. stopped c (partPower s) (g .old) refl;
+    }
+  where
+    change : (s : TransferPart) (a b : Bool) (x : TransferCall) → partVerdict s a b x ≡ Accepted → Gone c s → Gone c (partChange s x)
+    change s a b GetFwInfo v g = g
+    change s a b Start v g = record { old = omega (arith, g .old); other = λ r e. omega (arith, g .old) }
+    change s a b (Send context offset size piece) v g = record { old = g .old; other = g .other }
+    change s a b (Finish flag context) v g = gone-finish c s flag (g .old)
+    change s a b (Query context) v g = g
 
 -- an exchange that finishes the transfer c at m
 pub finish-at : (m : Module) (y : Exchange) (j c flag : ℕ) → kindOf y ≡ Finished j c flag → inner .answer m (y .event) ≡ y .got → FinishOk (m .device .transfer) flag c
@@ -98,8 +94,7 @@ go-on c m (Transfers host a b (Send context offset size piece) n answer) got p g
 go-on c m (Transfers host a b (Finish flag context) n answer) got p g q k =
     let x : TransferCall = Finish flag context in
     let v = accepted-call (partOf m) a b x n answer (ap (λ (z : Answer). remains (z .reply .verdict)) q ∙ k) in
-    inl (subst (λ (s : TransferPart). Gone c s) (sym (changes (partOf m) a b x v))
-    (if-both (λ (t : Transfer). Gone c (record { transfer = t; area = m .area })) (flag =? 0) (record { old = omega (arith, g); other = λ r z. never (sym r) }) (record { old = omega (arith, g); other = λ r z. never (sym r) })))
+    inl (subst (λ (s : TransferPart). Gone c s) (sym (changes (partOf m) a b x v)) (gone-finish c (partOf m) flag (omega (arith, g))))
 go-on c m (Transfers host a b (Query context) n answer) got p g q k =
     let v = accepted-call (partOf m) a b (Query context) n answer (ap (λ (z : Answer). remains (z .reply .verdict)) q ∙ k) in
     never (sym (ap (λ (z : Phase). z is Receiving) p) ∙ query-ok (partOf m) a b context v)
@@ -107,7 +102,7 @@ go-on c m (Others a b x n answer) got p g q k = inr (record { which = inr (refl,
 go-on c m Ticks got p g q k =
     let e = still (partOf m) (ap (λ (z : Phase). z is Verifying) p) in
     inr (record { which = inr (refl, tt); at = ap (λ (s : TransferPart). s .transfer .phase) e ∙ p; ctx = ap (λ (s : TransferPart). current (s .transfer)) e ∙ g })
-go-on c m Powers got p g q k = inl (record { old = omega (arith, g); other = λ r z. never (sym r) })
+go-on c m Powers got p g q k = inl (stopped c (partPower (partOf m)) (omega (arith, g)) refl)
 
 -- of an exchange
 abbrev pub Within : (context : ℕ) → Exchange → Type 0
@@ -123,7 +118,7 @@ inside-step : (c j flag : ℕ) (m : Module) (x y : Exchange) (mid : History) →
     → (On c m (act (x .event)) (x .got) → All (Within c) mid) → All (Within c) (x ∷ mid)
 inside-step c j flag m x y mid fin p k (inl g) i =
     let w = finish-at (end inner m (x ∷ mid)) y j c flag fin p in
-    absurd (gone-end c (inner .next m (x .event)) mid g .other (ap (λ (z : Phase). z is Receiving) (w .at)) (w .own))
+    absurd (keeps-end {P = Gone c} (gone c) (inner .next m (x .event)) mid g .other (ap (λ (z : Phase). z is Receiving) (w .at)) (w .own))
 inside-step c j flag m x y mid fin p k (inr o) i = (within c x k (o .which), i o)
 
 pub inside : (c j flag : ℕ) (m : Module) (mid : History) (y : Exchange) → m .device .transfer .phase ≡ Receiving → current (m .device .transfer) ≡ c → Plays inner m mid → All Remains mid
@@ -138,7 +133,7 @@ pub record Begun (m : Module) (x : Exchange) (host context : ℕ) : Type 0 where
   pub own : OwnAct (act (x .event))
   pub phase : inner .next m (x .event) .device .transfer .phase ≡ Receiving
   pub ctx : current (inner .next m (x .event) .device .transfer) ≡ context
-  pub next-number : context ≡ given (partOf m) + 1
+  pub next-number : context ≡ givenIn (partOf m) + 1
   pub part-is : partOf (inner .next m (x .event)) ≡ partChange (partOf m) Start
   pub allowed : StartOk (m .device .transfer)
 
@@ -157,7 +152,7 @@ begun m x host context w k p = go
     e : partOf (inner .next m (x .event)) ≡ partChange (partOf m) Start
     e = ap (λ (z : Act). partOf (nexts m z)) (f .act-is) ∙ changes (partOf m) (f .unserved) (f .misfit) Start v
 
-    number : context ≡ given (partOf m) + 1
+    number : context ≡ givenIn (partOf m) + 1
     number = sym (f .carried) ∙ given-number (partOf m) (f .unserved) (f .misfit) (f .n) (f .answer) (x .got) q v (w .contexts-fit)
 
     go : Begun m x host context

@@ -1,9 +1,9 @@
 -- Every act of the two parts takes what a possible record has to what a possible record has. The facts; the theorems are in proofs/Possible.antt.
 -- Assumes nothing.
-use Prim.Native.Nat.{ℕ, _-_, _≤_, _<_}
-use mathlib.Core.Path.{_≡_, refl, sym, ap, subst}
+use Prim.Native.Nat.{_-_, _≤_, _<_}
+use mathlib.Core.Path.{_≡_, refl, sym, subst}
 use mathlib.Core.Bool.{Bool, true, false, not, _&&_, _||_}
-use mathlib.Core.List.{List, [], _∷_}
+use mathlib.Core.List.{List, _∷_, []}
 use native.Mathlib.Omega.{arith}
 use lib.ListN.{length, length-append, length-take, length-drop}
 use borrow.Author.Tests.{ltb-true, ltb-false, leb-true, lt-ltb, le-leb, eqb-true, eqb-false, eq-eqb, not-true, not-false}
@@ -11,31 +11,31 @@ use Rattle.rules.specs.Tests.{if_then_else_, _=?_, _<?_, _≤?_, _implie
 use Rattle.rules.specs.Bytes.{zeros?}
 use Rattle.rules.specs.Numbers.{areaSize, verification, attemptLimit, lastContext}
 use Rattle.rules.specs.With.{_with-ticks_, _with-phase_, _with-received_}
-use Rattle.rules.specs.Record.{_is_, possible, possibleTransfer, possibleSecurity, possibleThresholds, Module}
+use Rattle.rules.specs.Record.{_is_, possible, possibleTransfer, possibleSecurity, possibleThresholds, Module, current, given}
 use Rattle.rules.specs.Refusals.{Check, _gives_, verdict}
 use Rattle.rules.specs.Thresholds.{GetThreshold, SetThreshold}
-use Rattle.rules.specs.Transfer.{TransferCall, GetFwInfo, Start, Send, Finish, Query, tickChange}
+use Rattle.rules.specs.Transfer.{TransferCall, GetFwInfo, Start, Send, Finish, Query}
 use Rattle.rules.specs.Security.{SecurityCall, GetSecurityState, SetPassphrase, Disable, Unlock, Freeze, securityChecks, wrong}
 use Rattle.rules.specs.declared.Refusal.{Refusal}
 use Rattle.rules.specs.declared.Refusal.the-variants.{R, Status}
-use Rattle.rules.specs.declared.Verdict.{Verdict}
 use Rattle.rules.specs.declared.Verdict.the-variants.{Accepted, Refused}
 use Rattle.rules.specs.declared.Phase.{Phase}
 use Rattle.rules.specs.declared.Phase.the-variants.{Idle, Receiving, Verifying, Staged, Failed}
 use Rattle.rules.specs.declared.Transfer.{Transfer}
 use Rattle.rules.specs.declared.Security.{Security}
 use Rattle.rules.proofs.Choice.{or-false, and-true, and-6, if-both}
-use Rattle.rules.proofs.Split.{TransferPart, Rest, partOf, restOf, RestCall, Masks, Limits, Locks, Nothing, Act, Transfers, Others, Ticks, Powers, partVerdict, partChange, partAfter, partTick, restAfter, restChange, restChecks, restNext, restPower, nexts}
+use Rattle.rules.proofs.Split.{TransferPart, Rest, partOf, restOf, RestCall, Masks, Limits, Locks, Nothing, Act, Transfers, Others, Ticks, Powers, partVerdict, partChange, partTick, restAfter, restChange, restChecks, restNext, restPower, nexts, givenIn}
 use Rattle.rules.proofs.Through.{mild}
-use Rattle.rules.proofs.Facts.{never, start-ok, send-ok, finish-ok, Tick, calm, counting, good, bad, tick-case}
+use Rattle.rules.proofs.Facts.{never, start-ok, send-ok, finish-ok}
+use Rattle.rules.proofs.Invariant.{by-tick, Invariant, keeps-next}
 
 -- the transfer's part, phase by phase
 abbrev pub PhaseOk : Phase → Transfer → Type 0
 PhaseOk Idle t = (t .received ≡ 0) × (t .ticks ≡ 0) × (t .staged ≡ 0)
-PhaseOk Receiving t = (1 ≤ t .contexts) × (t .ticks ≡ 0) × (t .staged ≡ 0)
-PhaseOk Verifying t = (1 ≤ t .contexts) × (1 ≤ t .ticks) × (t .ticks ≤ verification) × (t .staged ≡ 0)
-PhaseOk Staged t = (1 ≤ t .contexts) × (t .ticks ≡ 0)
-PhaseOk Failed t = (1 ≤ t .contexts) × (t .ticks ≡ 0) × (t .staged ≡ 0)
+PhaseOk Receiving t = (1 ≤ current t) × (t .ticks ≡ 0) × (t .staged ≡ 0)
+PhaseOk Verifying t = (1 ≤ current t) × (1 ≤ t .ticks) × (t .ticks ≤ verification) × (t .staged ≡ 0)
+PhaseOk Staged t = (1 ≤ current t) × (t .ticks ≡ 0)
+PhaseOk Failed t = (1 ≤ current t) × (t .ticks ≡ 0) × (t .staged ≡ 0)
 
 pub record PartOk (s : TransferPart) : Type 0 where
   pub within : s .transfer .received ≤ areaSize
@@ -45,7 +45,7 @@ pub record PartOk (s : TransferPart) : Type 0 where
 -- the and-6 tests of a possible record's transfer part
 abbrev test : Phase → Transfer → Bool
 test p t =
-    (1 ≤? t .contexts unless p is Idle)
+    (1 ≤? current t unless p is Idle)
     && (t .received ≤? areaSize)
     && (p is Idle implies t .received =? 0)
     && (p is Verifying implies 1 ≤? t .ticks && t .ticks ≤? verification)
@@ -53,27 +53,27 @@ test p t =
     && (t .staged =? 0 unless p is Staged)
 
 tests : (p : Phase) (t : Transfer) → test p t ≡ true → (t .received ≤ areaSize) × PhaseOk p t
-tests p t e = at p (and-6 (1 ≤? t .contexts unless p is Idle) (t .received ≤? areaSize) (p is Idle implies t .received =? 0) (p is Verifying implies 1 ≤? t .ticks && t .ticks ≤? verification)
+tests p t e = at p (and-6 (1 ≤? current t unless p is Idle) (t .received ≤? areaSize) (p is Idle implies t .received =? 0) (p is Verifying implies 1 ≤? t .ticks && t .ticks ≤? verification)
     (t .ticks =? 0 unless p is Verifying) (t .staged =? 0 unless p is Staged) e)
   where
-    at : (q : Phase) → ((1 ≤? t .contexts unless q is Idle) ≡ true) × ((t .received ≤? areaSize) ≡ true) × ((q is Idle implies t .received =? 0) ≡ true)
+    at : (q : Phase) → ((1 ≤? current t unless q is Idle) ≡ true) × ((t .received ≤? areaSize) ≡ true) × ((q is Idle implies t .received =? 0) ≡ true)
         × ((q is Verifying implies 1 ≤? t .ticks && t .ticks ≤? verification) ≡ true) × ((t .ticks =? 0 unless q is Verifying) ≡ true) × ((t .staged =? 0 unless q is Staged) ≡ true)
         → (t .received ≤ areaSize) × PhaseOk q t
     at Idle h = (leb-true (t .received) areaSize (h .1), (eqb-true (t .received) 0 (h .2), eqb-true (t .ticks) 0 (h .4), eqb-true (t .staged) 0 (h .5)))
-    at Receiving h = (leb-true (t .received) areaSize (h .1), (leb-true 1 (t .contexts) (h .0), eqb-true (t .ticks) 0 (h .4), eqb-true (t .staged) 0 (h .5)))
+    at Receiving h = (leb-true (t .received) areaSize (h .1), (leb-true 1 (current t) (h .0), eqb-true (t .ticks) 0 (h .4), eqb-true (t .staged) 0 (h .5)))
     at Verifying h =
         let k = and-true (1 ≤? t .ticks) (t .ticks ≤? verification) (h .3) in
-        (leb-true (t .received) areaSize (h .1), (leb-true 1 (t .contexts) (h .0), leb-true 1 (t .ticks) (k .0), leb-true (t .ticks) verification (k .1), eqb-true (t .staged) 0 (h .5)))
-    at Staged h = (leb-true (t .received) areaSize (h .1), (leb-true 1 (t .contexts) (h .0), eqb-true (t .ticks) 0 (h .4)))
-    at Failed h = (leb-true (t .received) areaSize (h .1), (leb-true 1 (t .contexts) (h .0), eqb-true (t .ticks) 0 (h .4), eqb-true (t .staged) 0 (h .5)))
+        (leb-true (t .received) areaSize (h .1), (leb-true 1 (current t) (h .0), leb-true 1 (t .ticks) (k .0), leb-true (t .ticks) verification (k .1), eqb-true (t .staged) 0 (h .5)))
+    at Staged h = (leb-true (t .received) areaSize (h .1), (leb-true 1 (current t) (h .0), eqb-true (t .ticks) 0 (h .4)))
+    at Failed h = (leb-true (t .received) areaSize (h .1), (leb-true 1 (current t) (h .0), eqb-true (t .ticks) 0 (h .4), eqb-true (t .staged) 0 (h .5)))
 
 tested : (p : Phase) (t : Transfer) → t .received ≤ areaSize → PhaseOk p t → test p t ≡ true
 tested Idle t r h = rw (le-leb (t .received) areaSize r, eq-eqb (t .received) 0 (h .0), eq-eqb (t .ticks) 0 (h .1), eq-eqb (t .staged) 0 (h .2))
-tested Receiving t r h = rw (le-leb (t .received) areaSize r, le-leb 1 (t .contexts) (h .0), eq-eqb (t .ticks) 0 (h .1), eq-eqb (t .staged) 0 (h .2))
+tested Receiving t r h = rw (le-leb (t .received) areaSize r, le-leb 1 (current t) (h .0), eq-eqb (t .ticks) 0 (h .1), eq-eqb (t .staged) 0 (h .2))
 tested Verifying t r h =
-    rw (le-leb (t .received) areaSize r, le-leb 1 (t .contexts) (h .0), le-leb 1 (t .ticks) (h .1), le-leb (t .ticks) verification (h .2), eq-eqb (t .staged) 0 (h .3))
-tested Staged t r h = rw (le-leb (t .received) areaSize r, le-leb 1 (t .contexts) (h .0), eq-eqb (t .ticks) 0 (h .1))
-tested Failed t r h = rw (le-leb (t .received) areaSize r, le-leb 1 (t .contexts) (h .0), eq-eqb (t .ticks) 0 (h .1), eq-eqb (t .staged) 0 (h .2))
+    rw (le-leb (t .received) areaSize r, le-leb 1 (current t) (h .0), le-leb 1 (t .ticks) (h .1), le-leb (t .ticks) verification (h .2), eq-eqb (t .staged) 0 (h .3))
+tested Staged t r h = rw (le-leb (t .received) areaSize r, le-leb 1 (current t) (h .0), eq-eqb (t .ticks) 0 (h .1))
+tested Failed t r h = rw (le-leb (t .received) areaSize r, le-leb 1 (current t) (h .0), eq-eqb (t .ticks) 0 (h .1), eq-eqb (t .staged) 0 (h .2))
 
 -- Start comes from Idle or Failed
 start-from : (p : Phase) (t : Transfer) → PhaseOk p t → (p is Receiving) ≡ false → (p is Verifying) ≡ false → (p is Staged) ≡ false → (t .ticks ≡ 0) × (t .staged ≡ 0)
@@ -110,27 +110,22 @@ part-change s a b (Finish flag context) v w = go (flag =? 0)
     go false = record { within = omega arith; in-phase = (refl, q .1, q .2); size = w .size }
 part-change s a b (Query context) v w = w
 
--- what holds of a store and of its change by an accepted call holds after the call
-pub part-when : (P : TransferPart → Type 0) (v : Verdict) (s : TransferPart) (x : TransferCall) → P s → (v ≡ Accepted → P (partChange s x)) → P (partAfter v s x)
-part-when P Accepted s x w f = f refl
-part-when P (Refused refusal) s x w f = w
-
-part-tick : (s : TransferPart) → PartOk s → Tick (s .transfer) (s .area) → PartOk (partTick s)
-part-tick s w (calm n e) = subst (λ (t : Transfer). PartOk (record { transfer = t; area = s .area })) (sym e) w
-part-tick s w (counting p l e) =
-    let h = at-phase Verifying (s .transfer) p (w .in-phase) in
-    subst (λ (t : Transfer). PartOk (record { transfer = t; area = s .area })) (sym e)
-    (record {
+part-tick : (s : TransferPart) → PartOk s → PartOk (partTick s)
+part-tick s w =
+    by-tick PartOk s w
+    (λ p l. record {
       within = w .within;
-      in-phase = subst (λ (z : Phase). PhaseOk z (s .transfer with-ticks (s .transfer .ticks - 1))) (sym p) (h .0, omega arith, omega arith, h .3);
+      in-phase = subst (λ (z : Phase). PhaseOk z (s .transfer with-ticks (s .transfer .ticks - 1))) (sym p) (h p .0, omega (arith, l), omega (arith, h p .2), h p .3);
       size = w .size;
     })
-part-tick s w (good version p l i e) =
-    let h = at-phase Verifying (s .transfer) p (w .in-phase) in
-    subst (λ (t : Transfer). PartOk (record { transfer = t; area = s .area })) (sym e) (record { within = w .within; in-phase = (h .0, refl); size = w .size })
-part-tick s w (bad p l i e) =
-    let h = at-phase Verifying (s .transfer) p (w .in-phase) in
-    subst (λ (t : Transfer). PartOk (record { transfer = t; area = s .area })) (sym e) (record { within = w .within; in-phase = (h .0, refl, h .3); size = w .size })
+    (λ version p. record { within = w .within; in-phase = (h p .0, refl); size = w .size })
+    (λ p. record { within = w .within; in-phase = (h p .0, refl, h p .3); size = w .size })
+  where
+    h : s .transfer .phase ≡ Verifying → PhaseOk Verifying (s .transfer)
+    h p = at-phase Verifying (s .transfer) p (w .in-phase)
+
+part-ok : Invariant PartOk
+part-ok = record { change = part-change; ticked = part-tick; powered = λ s w. record { within = omega arith; in-phase = (refl, refl, refl); size = w .size } }
 
 -- the rest
 pub record RestOk (r : Rest) : Type 0 where
@@ -210,23 +205,16 @@ pub record Ok (m : Module) : Type 0 where
   pub part : PartOk (partOf m)
   pub rests : RestOk (restOf m)
 
-pub ok-next : (m : Module) (a : Act) → Ok m → Ok (nexts m a)
+rests-next : (m : Module) (a : Act) → RestOk (restOf m) → RestOk (restOf (nexts m a))
 unfolding restPower
-ok-next m (Transfers host a b x n answer) w =
-    record { part = part-when PartOk (partVerdict (partOf m) a b x) (partOf m) x (w .part) (λ v. part-change (partOf m) a b x v (w .part)); rests = w .rests }
-ok-next m (Others a b x n answer) w = record { part = w .part; rests = rest-next (restOf m) a b x (w .rests) }
-ok-next m Ticks w = record { part = part-tick (partOf m) (w .part) (tick-case (m .device .transfer) (m .area)); rests = w .rests }
-ok-next m Powers w =
-    record {
-      part = record { within = omega arith; in-phase = (refl, refl, refl); size = w .part .size };
-      rests = record {
-        locks = relock (m .device .security .enabled);
-        phrase = w .rests .phrase;
-        tries = omega arith;
-        bits = w .rests .bits;
-        spare = w .rests .spare;
-      };
-    }
+rests-next m (Transfers host a b x n answer) w = w
+rests-next m (Others a b x n answer) w = rest-next (restOf m) a b x w
+rests-next m Ticks w = w
+rests-next m Powers w =
+    record { locks = relock (m .device .security .enabled); phrase = w .phrase; tries = omega arith; bits = w .bits; spare = w .spare }
+
+pub ok-next : (m : Module) (a : Act) → Ok m → Ok (nexts m a)
+ok-next m a w = record { part = keeps-next {P = PartOk} part-ok m a (w .part); rests = rests-next m a (w .rests) }
 
 pub ok-possible : (m : Module) → Ok m → possible (m .device) ≡ true
 unfolding possible possibleTransfer possibleSecurity possibleThresholds
@@ -262,23 +250,19 @@ possible-ok m e l =
     }
 
 -- the contexts given out never exceed the last one
-fit-change : (s : TransferPart) (a b : Bool) (x : TransferCall) → partVerdict s a b x ≡ Accepted → s .transfer .contexts ≤ lastContext → partChange s x .transfer .contexts ≤ lastContext
-fit-change s a b GetFwInfo v w = w
-fit-change s a b Start v w = let n = start-ok s a b v .left in omega arith
-fit-change s a b (Send context offset size piece) v w = w
-fit-change s a b (Finish flag context) v w = if-both (λ (t : Transfer). t .contexts ≤ lastContext) (flag =? 0) w w
-fit-change s a b (Query context) v w = w
+abbrev pub Fit : TransferPart → Type 0
+Fit s = givenIn s ≤ lastContext
+
+pub fit : Invariant Fit
+fit = record { change = change; ticked = λ s w. by-tick Fit s w (λ p l. w) (λ version p. w) (λ p. w); powered = λ s w. w }
+  where
+    change : (s : TransferPart) (a b : Bool) (x : TransferCall) → partVerdict s a b x ≡ Accepted → Fit s → Fit (partChange s x)
+    change s a b GetFwInfo v w = w
+    change s a b Start v w = let n = start-ok s a b v .left in omega (arith, w)
+    change s a b (Send context offset size piece) v w = w
+    change s a b (Finish flag context) v w = if-both (λ (t : Transfer). given t ≤ lastContext) (flag =? 0) w w
+    change s a b (Query context) v w = w
 
 -- a tick gives out no context
-pub tick-contexts : (t : Transfer) (area : List ℕ) → Tick t area → tickChange t area .contexts ≡ t .contexts
-tick-contexts t area (calm n e) = ap (λ (u : Transfer). u .contexts) e
-tick-contexts t area (counting p l e) = ap (λ (u : Transfer). u .contexts) e
-tick-contexts t area (good version p l i e) = ap (λ (u : Transfer). u .contexts) e
-tick-contexts t area (bad p l i e) = ap (λ (u : Transfer). u .contexts) e
-
-pub fit-next : (m : Module) (a : Act) → m .device .transfer .contexts ≤ lastContext → nexts m a .device .transfer .contexts ≤ lastContext
-fit-next m (Transfers host a b x n answer) w =
-    part-when (λ (s : TransferPart). s .transfer .contexts ≤ lastContext) (partVerdict (partOf m) a b x) (partOf m) x w (λ v. fit-change (partOf m) a b x v w)
-fit-next m (Others a b x n answer) w = w
-fit-next m Ticks w = rw (tick-contexts (m .device .transfer) (m .area) (tick-case (m .device .transfer) (m .area))) w
-fit-next m Powers w = omega arith
+pub tick-given : (s : TransferPart) → givenIn (partTick s) ≡ givenIn s
+tick-given s = by-tick (λ (u : TransferPart). givenIn u ≡ givenIn s) s refl (λ p l. refl) (λ version p. refl) (λ p. refl)

@@ -14,7 +14,7 @@ use Rattle.rules.specs.Transfers.{Answer, Kind, Started, Sent, Finished,
 use Rattle.rules.specs.declared.Refusal.the-variants.{R, Status}
 use Rattle.rules.specs.declared.Verdict.{Verdict}
 use Rattle.rules.specs.declared.Verdict.the-variants.{Accepted, Refused}
-use Rattle.rules.proofs.Split.{TransferPart, Act, Transfers, Others, Ticks, Powers, answerBy, partVerdict, partAnswer, actKind}
+use Rattle.rules.proofs.Split.{TransferPart, Act, Transfers, Others, Ticks, Powers, answerBy, partVerdict, partAnswer, actKind, givenIn}
 use Rattle.rules.proofs.Facts.{never, replies, start-ok}
 
 -- the answer is no refusal
@@ -113,7 +113,7 @@ carries-back : (n : ℕ) (answer : List ℕ) → n ≤ lastContext → numberAt 
 carries-back n answer l = omega arith
 
 pub given-number : (s : TransferPart) (a b : Bool) (n : ℕ) (answer : List ℕ) (got : Answer) → partAnswer s a b Start n answer ≡ got → partVerdict s a b Start ≡ Accepted
-    → s .transfer .contexts ≤ lastContext → numberAt 4 4 (got .buffer) ≡ s .transfer .contexts + 1
+    → givenIn s ≤ lastContext → numberAt 4 4 (got .buffer) ≡ givenIn s + 1
 given-number s a b n answer got p v l =
     let k = start-ok s a b v .left in
-    ap (λ (z : Answer). numberAt 4 4 (z .buffer)) (sym p ∙ replies s a b Start n answer v) ∙ carries-back (s .transfer .contexts + 1) answer (omega arith)
+    ap (λ (z : Answer). numberAt 4 4 (z .buffer)) (sym p ∙ replies s a b Start n answer v) ∙ carries-back (givenIn s + 1) answer (omega arith)

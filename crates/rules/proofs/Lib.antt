@@ -18,6 +18,7 @@ pub mod Area
 pub mod Split
 pub mod Through
 pub mod Facts
+pub mod Invariant
 pub mod Keeps
 pub mod Possible
 pub mod Gate

@@ -3,34 +3,35 @@
 use Prim.Native.Nat.{ℕ, _+_, _≤_}
 use mathlib.Core.Path.{_≡_, refl, sym, _∙_, ap, subst}
 use mathlib.Core.Bool.{false}
-use mathlib.Core.List.{List, [], _∷_, _++_, append-assoc}
+use mathlib.Core.List.{[], List, _∷_, _++_, append-assoc}
 use native.Mathlib.Omega.{arith}
 use lib.ListN.{length, take, drop, length-append, length-take}
 use lib.Seq.{take-at}
 use Rattle.rules.specs.Tests.{if_then_else_, _=?_}
 use Rattle.rules.specs.Bytes.{numberAt, splice}
 use Rattle.rules.specs.Numbers.{areaSize}
-use Rattle.rules.specs.Record.{_is_, current, Module}
+use Rattle.rules.specs.Record.{_is_, current, Module, given}
 use Rattle.rules.specs.Refusals.{refused?}
 use Rattle.rules.specs.Transfer.{TransferCall, GetFwInfo, Start, Send, Finish, Query, receivedBytes}
-use Rattle.rules.specs.History.{Plays, end, All}
-use Rattle.rules.specs.Transfers.{Answer, Exchange, History, Kind, Started, Sent, Finished, Ticked, Powered, Other, kindOf, Open, none, by, bytesSoFar, withPiece, openAfter, ContextIs, InOrder, AllInOrder}
+use Rattle.rules.specs.History.{Plays, end, All, leadsTo}
+use Rattle.rules.specs.Transfers.{Answer, Exchange, History, Kind, Started, Sent, Finished, Ticked, Powered, Other, kindOf, Open, none, by, bytesSoFar, withPiece, openAfter, ContextIs, InOrder, AllInOrder, openNext}
 use Rattle.rules.specs.Hosts.{AnsweredTo}
 use Rattle.rules.specs.Demand3.{remains, Sound}
 use Rattle.rules.specs.declared.Phase.{Phase}
 use Rattle.rules.specs.declared.Phase.the-variants.{Receiving, Verifying}
 use Rattle.rules.specs.declared.Transfer.{Transfer}
 use Rattle.rules.proofs.Choice.{if-both}
-use Rattle.rules.proofs.Split.{TransferPart, partOf, Act, Transfers, Others, Ticks, Powers, act, partChange, partNext, partTick, answers, nexts, inner, actKind}
+use Rattle.rules.proofs.Split.{TransferPart, partOf, Act, Transfers, Others, Ticks, Powers, act, partChange, partNext, partTick, answers, nexts, inner, actKind, givenIn}
 use Rattle.rules.proofs.Through.{kind-act}
-use Rattle.rules.proofs.Facts.{never, Kept, accepted-call, changes, was-served, SendOk, send-ok, finish-ok, Tick, calm, counting, good, bad, tick-case}
-use Rattle.rules.proofs.Keeps.{tick-contexts}
+use Rattle.rules.proofs.Facts.{never, Kept, accepted-call, changes, was-served, SendOk, send-ok, finish-ok}
 use Rattle.rules.proofs.Possible.{sound-act}
 use Rattle.rules.proofs.Gate.{Remains}
 use Rattle.rules.proofs.KindOf.{accepted-good, NoStart}
 use Rattle.rules.proofs.Swap.{still}
-use Rattle.rules.proofs.Inside.{given, Begun, begun}
+use Rattle.rules.proofs.Inside.{Begun, begun}
 use Rattle.rules.proofs.Honest.{UsesAct}
+use Rattle.rules.proofs.Invariant.{by-tick}
+use Rattle.rules.proofs.Keeps.{tick-given}
 
 -- the transfer with this context is receiving, and has these bytes
 pub record Holding (context : ℕ) (bytes : List ℕ) (s : TransferPart) : Type 0 where
@@ -46,8 +47,7 @@ Fits (by host context bytes) s = Holding context bytes s
 
 -- which transfer is open after a history
 abbrev pub openAtEnd : Open → History → Open
-openAtEnd now [] = now
-openAtEnd now (x ∷ h) = openAtEnd (openAfter now (kindOf x)) h
+openAtEnd now h = leadsTo openNext now h
 
 -- a Send's or a Finish's context was answered to its host
 abbrev pub UsesKind : History → Kind → Type 0
@@ -62,7 +62,7 @@ UsesKind past Other = Unit {0}
 pub record Goes (f : Act) (o : Open) (k : Kind) (s u : TransferPart) : Type 0 where
   pub order : InOrder o k
   pub fits : Fits (openAfter o k) u
-  pub same-given : NoStart k → given u ≡ given s
+  pub same-given : NoStart k → givenIn u ≡ givenIn s
   pub used : (past : History) → UsesAct past f → UsesKind past k
 
 -- the received bytes after a piece is written
@@ -106,12 +106,9 @@ send-fits (by starter c bytes) s context offset size piece long f k =
         ∙ ap (λ (z : List ℕ). z ++ piece) (f .held)
 
 -- a tick
-tick-fits : (o : Open) (s : TransferPart) → Fits o s → Tick (s .transfer) (s .area) → Fits o (partTick s)
-tick-fits (by host context bytes) s f t = subst (λ (u : TransferPart). Holding context bytes u) (sym (still s (ap (λ (q : Phase). q is Verifying) (f .at)))) f
-tick-fits none s f (calm n e) = ap (λ (t : Transfer). t .phase is Receiving) e ∙ f
-tick-fits none s f (counting p l e) = ap (λ (t : Transfer). t .phase is Receiving) e ∙ f
-tick-fits none s f (good version p l i e) = ap (λ (t : Transfer). t .phase is Receiving) e
-tick-fits none s f (bad p l i e) = ap (λ (t : Transfer). t .phase is Receiving) e
+tick-fits : (o : Open) (s : TransferPart) → Fits o s → Fits o (partTick s)
+tick-fits (by host context bytes) s f = subst (λ (u : TransferPart). Holding context bytes u) (sym (still s (ap (λ (q : Phase). q is Verifying) (f .at)))) f
+tick-fits none s f = by-tick (Fits none) s f (λ p l. f) (λ version p. refl) (λ p. refl)
 
 -- an act that is nothing to the transfers, and leaves what they use
 goes-other : (f : Act) (o : Open) (s u : TransferPart) → Fits o s → u ≡ s → Goes f o Other s u
@@ -164,7 +161,7 @@ goes-act x o m (Transfers host a b (Finish flag context) n answer) is-f e sound 
     (record {
       order = in-open o (partOf m) context w (ok .at) (ok .own);
       fits = if-both (λ (t : Transfer). (t .phase is Receiving) ≡ false) (flag =? 0) refl refl;
-      same-given = λ z. if-both (λ (t : Transfer). t .contexts ≡ m .device .transfer .contexts) (flag =? 0) refl refl;
+      same-given = λ z. if-both (λ (t : Transfer). given t ≡ given (m .device .transfer)) (flag =? 0) refl refl;
       used = λ past u. u (was-served (partOf m) a b call v .fitting);
     }))
 goes-act x o m (Transfers host a b (Query context) n answer) is-f e sound w p k =
@@ -172,8 +169,7 @@ goes-act x o m (Transfers host a b (Query context) n answer) is-f e sound w p k 
     (changes (partOf m) a b (Query context) (accepted-call (partOf m) a b (Query context) n answer (ap (λ (z : Answer). remains (z .reply .verdict)) p ∙ k)))
 goes-act x o m (Others a b y n answer) is-f e sound w p k = goes-other (Others a b y n answer) o (partOf m) (partOf m) w refl
 goes-act x o m Ticks is-f e sound w p k =
-    let t = tick-case (m .device .transfer) (m .area) in
-    record { order = tt; fits = tick-fits o (partOf m) w t; same-given = λ z. tick-contexts (m .device .transfer) (m .area) t; used = λ past u. tt }
+    record { order = tt; fits = tick-fits o (partOf m) w; same-given = λ z. tick-given (partOf m); used = λ past u. tt }
 goes-act x o m Powers is-f e sound w p k = record { order = tt; fits = refl; same-given = λ z. refl; used = λ past u. tt }
 
 pub goes : (x : Exchange) (o : Open) (m : Module) → Sound m → Fits o (partOf m) → inner .answer m (x .event) ≡ x .got → Kept (x .got)

@@ -2,11 +2,11 @@
 -- Assumes nothing.
 use mathlib.Core.Path.{_≡_, subst}
 use mathlib.Core.Bool.{true, _&&_}
-use mathlib.Core.List.{List, [], _∷_, _++_}
+use mathlib.Core.List.{List, _∷_, _++_, []}
 use Prim.Native.Nat.{ℕ, _≤_}
 use lib.ListN.{length}
 use borrow.Author.Tests.{eqb-true, leb-true, ltb-false, not-false}
-use Rattle.rules.specs.Tests.{_≤?_, _<?_, _=?_, _implies_, _unless_}
+use Rattle.rules.specs.Tests.{_≤?_, _=?_, _implies_, _unless_}
 use Rattle.rules.specs.Bytes.{zeros?}
 use Rattle.rules.specs.Numbers.{areaSize, answerRoom, verification, attemptLimit}
 use Rattle.rules.specs.Record.{_is_, current, possible, possibleTransfer, possibleSecurity, possibleThresholds, Module}

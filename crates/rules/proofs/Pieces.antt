@@ -4,37 +4,21 @@ use Prim.Native.Nat.{ℕ}
 use mathlib.Core.Path.{_≡_, refl, sym, _∙_, ap, subst}
 use mathlib.Core.Logic.{_⊎_, inl, inr}
 use mathlib.Core.Bool.{Bool, true, false≢true}
-use mathlib.Core.List.{List, [], _∷_, _++_, append-assoc, append-nil}
+use mathlib.Core.List.{[], List, _∷_, _++_, append-assoc, append-nil}
 use native.Mathlib.Omega.{arith}
 use borrow.Author.Tests.{eq-eqb}
 use Rattle.rules.specs.Transfer.{receivedBytes}
 use Rattle.rules.specs.Record.{Module}
 use Rattle.rules.specs.History.{Plays, end, All, keep}
-use Rattle.rules.specs.Transfers.{machine, Exchange, History, Kind, Started, Sent, Finished, Ticked, Powered, Other, kindOf, Open, none, by, bytesSoFar, openAfter, InOrder, AllInOrder, ByStarter, AllByStarter}
+use Rattle.rules.specs.Transfers.{machine, Exchange, History, Kind, Started, Sent, Finished, Ticked, Powered, Other, kindOf, Open, none, by, bytesSoFar, openAfter, InOrder, AllInOrder, ByStarter, AllByStarter, openNext}
 use Rattle.rules.specs.Sends.{isSendOf, ownSends, pieceOf, pieces, SentBy, FinishedIn}
 use Rattle.rules.specs.Demand3.{Sound, Received, OwnPieces}
-use Rattle.rules.proofs.Joining.{all-left, plays-left, plays-right}
+use Rattle.rules.proofs.Joining.{all-left, plays-left, plays-right, leads-join, throughout-left, throughout-right}
 use Rattle.rules.proofs.Split.{partOf, inner}
 use Rattle.rules.proofs.Gate.{Remains, inwards}
 use Rattle.rules.proofs.Inside.{Within, finish-at}
 use Rattle.rules.proofs.Moved.{between-within, free-of}
 use Rattle.rules.proofs.Order.{openAtEnd, Fits, bytes-open, fits-at}
-
-pub open-join : (o : Open) (h k : History) → openAtEnd o (h ++ k) ≡ openAtEnd (openAtEnd o h) k
-open-join o [] k = refl
-open-join o (x ∷ h) k = open-join (openAfter o (kindOf x)) h k
-
-pub orders-left : (o : Open) (h k : History) → AllInOrder o (h ++ k) → AllInOrder o h
-orders-left o [] k u = tt
-orders-left o (x ∷ h) k u = (u .0, orders-left (openAfter o (kindOf x)) h k (u .1))
-
-by-left : (o : Open) (h k : History) → AllByStarter o (h ++ k) → AllByStarter o h
-by-left o [] k u = tt
-by-left o (x ∷ h) k u = (u .0, by-left (openAfter o (kindOf x)) h k (u .1))
-
-by-right : (o : Open) (h k : History) → AllByStarter o (h ++ k) → AllByStarter (openAtEnd o h) k
-by-right o [] k u = u
-by-right o (x ∷ h) k u = by-right (openAfter o (kindOf x)) h k (u .1)
 
 -- an own Send adds its piece; one that may move adds nothing
 own-opens : (host c : ℕ) (bytes : List ℕ) (k : Kind) → isSendOf c k ≡ true → openAfter (by host c bytes) k ≡ by host c (bytes ++ pieceOf k)
@@ -112,7 +96,7 @@ module _ (m : Module) (h : History) (f : FinishedIn h) where
   open-is : All (Within (f .context)) (f .between) → openAtEnd none pre ≡ by (f .starter) (f .context) (pieces (ownSends (f .context) (f .between)))
   unfolding pre
   open-is ins =
-      open-join none (f .before) (f .start ∷ f .between)
+      leads-join openNext none (f .before) (f .start ∷ f .between)
       ∙ ap (λ (o : Open). openAtEnd o (f .between)) start-is
       ∙ open-between (f .starter) (f .context) (f .between) ins []
 
@@ -147,11 +131,11 @@ module _ (m : Module) (h : History) (f : FinishedIn h) where
         one-sender =
             senders (f .starter) (f .context) (f .between) ins []
             (subst (λ (o : Open). AllByStarter o (f .between)) start-is
-            (by-left (openAfter (openAtEnd none (f .before)) (kindOf (f .start))) (f .between) last
-            (by-right none (f .before) (f .start ∷ (f .between ++ last)) (subst (λ (z : History). AllByStarter none z) (f .whole) t) .1)));
+            (throughout-left openNext (λ o x. ByStarter o (kindOf x)) (openAfter (openAtEnd none (f .before)) (kindOf (f .start))) (f .between) last
+            (throughout-right openNext (λ o x. ByStarter o (kindOf x)) none (f .before) (f .start ∷ (f .between ++ last)) (subst (λ (z : History). AllByStarter none z) (f .whole) t) .1)));
         one-finisher =
             subst (λ (o : Open). ByStarter o (Finished (f .finisher) (f .context) (f .flag))) (open-is ins)
-            (subst (λ (z : Kind). ByStarter (openAtEnd none pre) z) (f .finishes) (by-right none pre last (subst (λ (z : History). AllByStarter none z) whole t) .0));
+            (subst (λ (z : Kind). ByStarter (openAtEnd none pre) z) (f .finishes) (throughout-right openNext (λ o x. ByStarter o (kindOf x)) none pre last (subst (λ (z : History). AllByStarter none z) whole t) .0));
       }
     where
       ins : All (Within (f .context)) (f .between)

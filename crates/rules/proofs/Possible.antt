@@ -4,7 +4,7 @@
 use Prim.Native.Nat.{ℕ}
 use mathlib.Core.Path.{_≡_, refl, sym, ap, _∙_, subst}
 use mathlib.Core.Bool.{Bool, true, false}
-use mathlib.Core.List.{List, [], _∷_}
+use mathlib.Core.List.{List}
 use native.Mathlib.Omega.{arith}
 use lib.ListN.{length}
 use borrow.Author.Tests.{eq-eqb}
@@ -12,7 +12,7 @@ use Rattle.rules.specs.Bytes.{zeros?}
 use Rattle.rules.specs.Numbers.{areaSize}
 use Rattle.rules.specs.Record.{fresh, possible, possibleTransfer, possibleSecurity, possibleThresholds, Module}
 use Rattle.rules.specs.Module.{Event, step}
-use Rattle.rules.specs.History.{end}
+use Rattle.rules.specs.History.{end, afterExchange}
 use Rattle.rules.specs.Transfers.{machine, History}
 use Rattle.rules.specs.Demand3.{freshWith, Sound}
 use Rattle.rules.specs.declared.Refusal.the-variants.{R}
@@ -20,7 +20,9 @@ use Rattle.rules.specs.declared.Verdict.the-variants.{Refused}
 use Rattle.rules.proofs.Split.{Act, act, nexts}
 use Rattle.rules.proofs.Through.{noR, Through, through, gate-noR, shut}
 use Rattle.rules.specs.Demand1.{bufferTooShort}
-use Rattle.rules.proofs.Keeps.{Ok, ok-next, ok-possible, possible-ok, fit-next}
+use Rattle.rules.proofs.Keeps.{Ok, ok-next, ok-possible, possible-ok, Fit, fit}
+use Rattle.rules.proofs.Joining.{kept-along}
+use Rattle.rules.proofs.Invariant.{keeps-next}
 
 -- "Fresh" is possible.
 pub possible-fresh : possible fresh ≡ true
@@ -59,7 +61,7 @@ sound-fresh area l = record { record-possible = possible-fresh; contexts-fit = o
 pub sound-act : (m : Module) (a : Act) → Sound m → Sound (nexts m a)
 sound-act m a w =
     let k = ok-next m a (possible-ok m (w .record-possible) (w .area-size)) in
-    record { record-possible = ok-possible (nexts m a) k; contexts-fit = fit-next m a (w .contexts-fit); area-size = k .part .size }
+    record { record-possible = ok-possible (nexts m a) k; contexts-fit = keeps-next {P = Fit} fit m a (w .contexts-fit); area-size = k .part .size }
 
 -- past R1 a sound module is its two parts
 pub sound-through : (m : Module) (event : Event) → Sound m → bufferTooShort event ≡ false → Through m event
@@ -73,5 +75,4 @@ sound-next m event w = go (bufferTooShort event) refl
     go false e = subst (λ (u : Module). Sound u) (sym (sound-through m event w e .nexts-as)) (sound-act m (act event) w)
 
 pub sound-end : (m : Module) (h : History) → Sound m → Sound (end machine m h)
-sound-end m [] w = w
-sound-end m (x ∷ h) w = sound-end (machine .next m (x .event)) h (sound-next m (x .event) w)
+sound-end m h w = kept-along (afterExchange machine) Sound (λ u x s. sound-next u (x .event) s) m h w

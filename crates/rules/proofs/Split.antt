@@ -2,7 +2,7 @@
 -- Assumes nothing.
 use Prim.Native.Nat.{ℕ, _+_}
 use mathlib.Core.Bool.{Bool, not, _&&_}
-use mathlib.Core.List.{List, [], _∷_, _++_}
+use mathlib.Core.List.{List, _∷_, _++_, []}
 use Rattle.rules.specs.Tests.{if_then_else_, _=?_}
 use Rattle.rules.specs.Bytes.{le}
 use Rattle.rules.specs.With.{_with-attempts_}
@@ -11,7 +11,7 @@ use Rattle.rules.specs.Table.{rowOf, served?, fits?, mask}
 use Rattle.rules.specs.Thresholds.{ThresholdCall, thresholdChecks, thresholdAnswer, thresholdChange}
 use Rattle.rules.specs.Transfer.{TransferCall, transferChecks, transferAnswer, transferChange, transferArea, tickChange, transferPower}
 use Rattle.rules.specs.Security.{SecurityCall, securityChecks, securityAnswer, securityChange, securityPower}
-use Rattle.rules.specs.Record.{Module}
+use Rattle.rules.specs.Record.{given, Module}
 use Rattle.rules.specs.Module.{Call, OnMask, OnThresholds, OnTransfer, OnSecurity, OnNothing, Event, call, tick, power, reply, callIn}
 use Rattle.rules.specs.History.{Machine}
 use Rattle.rules.specs.Transfers.{Answer, Kind, Ticked, Powered, Other, callKind}
@@ -26,6 +26,14 @@ use Rattle.rules.specs.declared.Security.{Security}
 pub record TransferPart : Type 0 where
   pub transfer : Transfer
   pub area : List ℕ
+
+-- the contexts given out
+abbrev pub givenIn : TransferPart → ℕ
+givenIn s = given (s .transfer)
+
+infixl 10 _with-part_
+abbrev pub _with-part_ : TransferPart → Transfer → TransferPart
+s with-part t = record { transfer = t; area = s .area }
 
 pub record Rest : Type 0 where
   pub thresholds : Thresholds

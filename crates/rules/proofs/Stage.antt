@@ -4,7 +4,7 @@ use Prim.Native.Nat.{ℕ, zero, suc, _≤_}
 use mathlib.Core.Path.{_≡_, refl, sym, _∙_, ap}
 use mathlib.Core.Logic.{_⊎_, inl, inr}
 use mathlib.Core.Bool.{Bool, true, false, _||_, _&&_}
-use mathlib.Core.List.{List, [], _∷_}
+use mathlib.Core.List.{List, _∷_}
 use native.Mathlib.Omega.{arith}
 use borrow.Author.Tests.{eqb-true, eq-eqb}
 use Rattle.rules.specs.Tests.{if_then_else_, _=?_}
@@ -14,7 +14,7 @@ use Rattle.rules.specs.Refusals.{refused?}
 use Rattle.rules.specs.Table.{rowOf}
 use Rattle.rules.specs.Transfer.{TransferCall, GetFwInfo, Start, Send, Finish, Query, receivedBytes}
 use Rattle.rules.specs.Module.{Call, OnMask, OnThresholds, OnTransfer, OnSecurity, OnNothing, Event, call, tick, power, callIn, step}
-use Rattle.rules.specs.History.{end}
+use Rattle.rules.specs.History.{end, afterExchange}
 use Rattle.rules.specs.Transfers.{Answer, machine, Exchange, History, Kind, Started, Sent, Finished, Other, callKind, kindOf}
 use Rattle.rules.specs.Sends.{tickCount, powerCount, powerCycles}
 use Rattle.rules.specs.Demand3.{Sound, stagedWith, Stages, StagedOnce}
@@ -24,12 +24,12 @@ use Rattle.rules.specs.declared.Phase.{Phase}
 use Rattle.rules.specs.declared.Phase.the-variants.{Receiving, Verifying, Staged}
 use Rattle.rules.specs.declared.Transfer.{Transfer}
 use Rattle.rules.proofs.Choice.{if-both, and-true}
-use Rattle.rules.proofs.Joining.{end-join}
+use Rattle.rules.proofs.Joining.{end-join, counted-along, total-none}
 use Rattle.rules.proofs.Split.{TransferPart, partOf, Act, Transfers, Others, Ticks, Powers, act, actOf, unserved?, misfit?, partVerdict, partChange, partNext, partTick, nexts, actKind}
 use Rattle.rules.proofs.Through.{shut, kind-act}
 use Rattle.rules.specs.Demand1.{bufferTooShort}
 use Rattle.rules.proofs.Facts.{never, is-phase, start-ok, send-ok, finish-ok, Tick, calm, counting, good, bad, tick-case}
-use Rattle.rules.proofs.Keeps.{part-when}
+use Rattle.rules.proofs.Invariant.{part-when}
 use Rattle.rules.proofs.Possible.{sound-through, sound-next, sound-end}
 use Rattle.rules.proofs.Swap.{still}
 
@@ -197,9 +197,9 @@ staged-step m x w p z = go (bufferTooShort (x .event)) refl
         ∙ staged-next m (act (x .event)) (x .got) p (ap powerCount (sym (kind-act x)) ∙ z)
 
 staged-stays : (m : Module) (h : History) → Sound m → m .device .transfer .phase ≡ Staged → powerCycles h ≡ 0 → end machine m h .device .transfer .phase ≡ Staged
-staged-stays m [] w p z = p
-staged-stays m (x ∷ h) w p z =
-    staged-stays (machine .next m (x .event)) h (sound-next m (x .event) w) (staged-step m x w p (omega arith)) (omega arith)
+staged-stays m h w p z =
+    counted-along (afterExchange machine) (λ x. 0) (λ x. powerCount (kindOf x) ≡ 0) (λ n u. Sound u × (u .device .transfer .phase ≡ Staged))
+    (λ n u x q g. (sound-next u (x .event) (g .0), staged-step u x (g .0) (g .1) q)) m h (total-none (λ x. powerCount (kindOf x)) h z) (w, p) .1
 
 -- An image is staged once, from every sound module.
 pub staged-once : (m : Module) (h : History) → Sound m → StagedOnce m h

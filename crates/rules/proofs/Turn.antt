@@ -3,18 +3,18 @@
 use Prim.Native.Nat.{ℕ, _≤_}
 use mathlib.Core.Path.{_≡_, refl, sym, _∙_, subst}
 use mathlib.Core.Logic.{inl, inr}
-use mathlib.Core.List.{List, [], _∷_}
+use mathlib.Core.List.{[], List, _∷_}
 use native.Mathlib.Omega.{arith}
 use Rattle.rules.specs.Record.{Module}
 use Rattle.rules.specs.History.{Plays, All}
 use Rattle.rules.specs.Transfers.{Exchange, History, Kind, Started, Sent, Finished, Ticked, Powered, Other, kindOf, Open, none, by, withPiece, openAfter, ContextIs, InOrder, StarterIs, ByStarter, AllByStarter}
 use Rattle.rules.specs.Hosts.{AnsweredTo, HonestAfter}
 use Rattle.rules.specs.Demand3.{Sound}
-use Rattle.rules.proofs.Split.{TransferPart, partOf, act, inner}
+use Rattle.rules.proofs.Split.{TransferPart, partOf, act, inner, givenIn}
 use Rattle.rules.proofs.Possible.{sound-act}
 use Rattle.rules.proofs.Gate.{Remains}
 use Rattle.rules.proofs.KindOf.{NoStart}
-use Rattle.rules.proofs.Inside.{given, Begun, begun}
+use Rattle.rules.proofs.Inside.{Begun, begun}
 use Rattle.rules.proofs.Honest.{uses-act}
 use Rattle.rules.proofs.Order.{Fits, UsesKind, goes}
 
@@ -26,7 +26,7 @@ Sole past (by host context bytes) = (j : ℕ) → AnsweredTo j context past → 
 -- what is known of the hosts: that, and no context answered is above the number given out
 pub record Hosts (past : History) (o : Open) (s : TransferPart) : Type 0 where
   pub sole : Sole past o
-  pub below : (host context : ℕ) → AnsweredTo host context past → context ≤ given s
+  pub below : (host context : ℕ) → AnsweredTo host context past → context ≤ givenIn s
 
 pub hosts-fresh : (s : TransferPart) → Hosts [] none s
 hosts-fresh s = record { sole = tt; below = λ host context m. absurd m }
@@ -40,7 +40,7 @@ sole-older : (past : History) (x : Exchange) (k : Kind) (o : Open) → kindOf x 
 sole-older past x k none e n s = tt
 sole-older past x k (by host context bytes) e n s = λ j m. s j (older past x k j context e n m)
 
-add : (past : History) (x : Exchange) (k : Kind) (o o′ : Open) (s u : TransferPart) → kindOf x ≡ k → NoStart k → Hosts past o s → Sole past o′ → given u ≡ given s → Hosts (x ∷ past) o′ u
+add : (past : History) (x : Exchange) (k : Kind) (o o′ : Open) (s u : TransferPart) → kindOf x ≡ k → NoStart k → Hosts past o s → Sole past o′ → givenIn u ≡ givenIn s → Hosts (x ∷ past) o′ u
 add past x k o o′ s u e n w so g =
     record { sole = sole-older past x k o′ e n so; below = λ host context m. rw g (w .below host context (older past x k host context e n m)) }
 
@@ -53,7 +53,7 @@ hosts-start : (past : History) (x : Exchange) (o : Open) (m : Module) (host cont
     → Hosts (x ∷ past) (by host context []) (partOf (inner .next m (x .event)))
 hosts-start past x o m host context e b w = record { sole = sole; below = below }
   where
-    below : (j c : ℕ) → AnsweredTo j c (x ∷ past) → c ≤ given (partOf (inner .next m (x .event)))
+    below : (j c : ℕ) → AnsweredTo j c (x ∷ past) → c ≤ givenIn (partOf (inner .next m (x .event)))
     below j c (inl q) = let same : Started j c ≡ Started host context = sym q ∙ e in let r : c ≡ context = cc in omega (arith, b .ctx)
     below j c (inr r) = omega (arith, w .below j c r, b .next-number, b .ctx)
 
@@ -71,7 +71,7 @@ record Turned (past : History) (x : Exchange) (o : Open) (k : Kind) (u : Transfe
   hosts : Hosts (x ∷ past) (openAfter o k) u
 
 turned : (past : History) (x : Exchange) (o : Open) (m : Module) (k : Kind) → kindOf x ≡ k → Sound m → inner .answer m (x .event) ≡ x .got → Hosts past o (partOf m) → InOrder o k → UsesKind past k
-    → (NoStart k → given (partOf (inner .next m (x .event))) ≡ given (partOf m)) → Turned past x o k (partOf (inner .next m (x .event)))
+    → (NoStart k → givenIn (partOf (inner .next m (x .event))) ≡ givenIn (partOf m)) → Turned past x o k (partOf (inner .next m (x .event)))
 turned past x o m (Started host context) e sound p w i u g = record { turn = tt; hosts = hosts-start past x o m host context e (begun m x host context sound e p) w }
 turned past x o m (Sent host context offset piece) e sound p w i u g =
     record { turn = starter-is past o host context (w .sole) (i .0) u; hosts = add past x (Sent host context offset piece) o (withPiece o piece) (partOf m) _ e tt w (sole-piece past o piece (w .sole)) (g tt) }

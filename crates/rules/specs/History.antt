@@ -65,7 +65,7 @@ module _ {S X : Type 0} (onward : S → X → S) where
   Throughout P s [] = Unit {0}
   Throughout P s (x ∷ h) = P s x × Throughout P (onward s x) h
 
--- a machine answers an event, and is in another state afterwards
+-- a machine answers an event, and is in another state afterExchange
 pub record Machine (S E A : Type 0) : Type 0 where
   pub answer : S → E → A
   pub next : S → E → S
@@ -82,16 +82,16 @@ module _ {S E A : Type 0} (M : Machine S E A) where
   historyOf s (event ∷ events) = record { event = event; got = M .answer s event } ∷ historyOf (M .next s event) events
 
   -- the state after an exchange
-  abbrev pub afterwards : S → ExchangeOf E A → S
-  afterwards s x = M .next s (x .event)
+  abbrev pub afterExchange : S → ExchangeOf E A → S
+  afterExchange s x = M .next s (x .event)
 
   -- from the state s, every event of the history is answered just as the history says
   abbrev pub Plays : S → List (ExchangeOf E A) → Type 0
-  Plays s h = Throughout afterwards (λ state x. M .answer state (x .event) ≡ x .got) s h
+  Plays s h = Throughout afterExchange (λ state x. M .answer state (x .event) ≡ x .got) s h
 
   -- the end to which the history comes, from the state s
   abbrev pub end : S → List (ExchangeOf E A) → S
-  end s h = leadsTo afterwards s h
+  end s h = leadsTo afterExchange s h
 
   -- "no answer or end changes": from the state s every event of k is answered just as k says, and k comes to the same end as h. The answers that k says are
   -- h's, for k is made of h's own exchanges (`struck`, `moved`, `rearranged`).

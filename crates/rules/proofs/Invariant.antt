@@ -1,0 +1,54 @@
+-- Kept by every event: a property of the transfer's part that an accepted call, a tick and a power cycle keep holds at the end of any history. Each
+-- invariant is an instance, with one clause for each kind of event.
+-- Assumes nothing.
+use Prim.Native.Nat.{ℕ, _-_, _<_}
+use mathlib.Core.Path.{_≡_, refl, sym, subst}
+use mathlib.Core.Bool.{Bool}
+use Rattle.rules.specs.With.{_with-ticks_, _with-phase_, _with-staged_}
+use Rattle.rules.specs.Record.{Module}
+use Rattle.rules.specs.Transfer.{TransferCall}
+use Rattle.rules.specs.History.{end, afterExchange}
+use Rattle.rules.specs.Transfers.{History}
+use Rattle.rules.specs.declared.Phase.the-variants.{Verifying, Staged, Failed}
+use Rattle.rules.specs.declared.Transfer.{Transfer}
+use Rattle.rules.specs.declared.Verdict.{Verdict}
+use Rattle.rules.specs.declared.Verdict.the-variants.{Accepted, Refused}
+use Rattle.rules.proofs.Joining.{kept-along}
+use Rattle.rules.proofs.Split.{TransferPart, _with-part_, partOf, partVerdict, partChange, partAfter, partTick, partPower, Act, Transfers, Others, Ticks, Powers, act, nexts, inner}
+use Rattle.rules.proofs.Facts.{Tick, calm, counting, good, bad, tick-case}
+
+-- what holds of a part and of its change by an accepted call holds after the call
+pub part-when : (P : TransferPart → Type 0) (v : Verdict) (s : TransferPart) (x : TransferCall) → P s → (v ≡ Accepted → P (partChange s x)) → P (partAfter v s x)
+part-when P Accepted s x w f = f refl
+part-when P (Refused refusal) s x w f = w
+
+-- by the four ways of a tick: nothing is verified; a tick more is left; it was the last, and the image is good; or bad
+pub by-tick : (P : TransferPart → Type 0) (s : TransferPart) → P s
+    → (s .transfer .phase ≡ Verifying → 1 < s .transfer .ticks → P (s with-part (s .transfer with-ticks (s .transfer .ticks - 1))))
+    → ((version : ℕ) → s .transfer .phase ≡ Verifying → P (s with-part (s .transfer with-ticks 0 with-phase Staged with-staged version)))
+    → (s .transfer .phase ≡ Verifying → P (s with-part (s .transfer with-ticks 0 with-phase Failed)))
+    → P (partTick s)
+by-tick P s as-it-is one-less staged failed = go (tick-case (s .transfer) (s .area))
+  where
+    go : Tick (s .transfer) (s .area) → P (partTick s)
+    go (calm n e) = subst (λ (t : Transfer). P (s with-part t)) (sym e) as-it-is
+    go (counting p l e) = subst (λ (t : Transfer). P (s with-part t)) (sym e) (one-less p l)
+    go (good version p l i e) = subst (λ (t : Transfer). P (s with-part t)) (sym e) (staged version p)
+    go (bad p l i e) = subst (λ (t : Transfer). P (s with-part t)) (sym e) (failed p)
+
+pub record Invariant (P : TransferPart → Type 0) : Type 0 where
+  pub change : (s : TransferPart) (a b : Bool) (x : TransferCall) → partVerdict s a b x ≡ Accepted → P s → P (partChange s x)
+  pub ticked : (s : TransferPart) → P s → P (partTick s)
+  pub powered : (s : TransferPart) → P s → P (partPower s)
+
+-- it is kept by every act
+pub keeps-next : {P : TransferPart → Type 0} → Invariant P → (m : Module) (f : Act) → P (partOf m) → P (partOf (nexts m f))
+keeps-next {P} i m (Transfers host a b x n answer) p = part-when P (partVerdict (partOf m) a b x) (partOf m) x p (λ v. i .change (partOf m) a b x v p)
+keeps-next {P} i m (Others a b x n answer) p = p
+keeps-next {P} i m Ticks p = i .ticked (partOf m) p
+keeps-next {P} i m Powers p = i .powered (partOf m) p
+
+-- and so holds at the end
+pub keeps-end : {P : TransferPart → Type 0} → Invariant P → (m : Module) (h : History) → P (partOf m) → P (partOf (end inner m h))
+keeps-end {P} i m h p =
+    kept-along (afterExchange inner) (λ (u : Module). P (partOf u)) (λ u x q. keeps-next {P = P} i u (act (x .event)) q) m h p
