@@ -1,40 +1,4 @@
--- The case list.
-pub mod Claim
--- Laws of choices, rows and the table, for the theorems below and for the code above.
-pub mod Choice
-pub mod Passed
-pub mod Accepted
-pub mod Past
-pub mod Rows
-pub mod Fitting
-pub mod Told
-pub mod Agree
-pub mod Frozen
--- Demand 3: machines and histories, which know no module; then the module's part.
-pub mod Joining
-pub mod Swapping
-pub mod Struck
-pub mod Area
-pub mod Split
-pub mod Through
-pub mod Facts
-pub mod Invariant
-pub mod Keeps
-pub mod Possible
-pub mod Gate
-pub mod Swap
-pub mod KindOf
-pub mod Inside
-pub mod Moved
-pub mod Unbroken
-pub mod Honest
-pub mod Order
-pub mod Turn
-pub mod Pieces
-pub mod Stage
-pub mod Due
-pub mod Waits
-pub mod Again
-pub mod Demand3
--- Demand 1.
-pub mod Demand1
+-- Theorems over the page: of one call, tick or power cycle; demand 1.
+pub mod page
+-- Theorems over histories: demand 3.
+pub mod histories

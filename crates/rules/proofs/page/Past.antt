@@ -16,8 +16,8 @@ use Rattle.rules.specs.declared.Refusal.the-variants.{R, Status}
 use Rattle.rules.specs.declared.Verdict.{Verdict}
 use Rattle.rules.specs.declared.Verdict.the-variants.{Accepted, Refused}
 use Rattle.rules.specs.declared.Device.{Device}
-use Rattle.rules.proofs.Choice.{and-3, and-6}
-use Rattle.rules.proofs.Passed.{NotBy, past-rows}
+use Rattle.rules.proofs.page.Choice.{and-3, and-6}
+use Rattle.rules.proofs.page.Passed.{NotBy, past-rows}
 
 -- the verdict is no R number
 abbrev pub NoR : Verdict → Type 0
@@ -40,8 +40,7 @@ pub record EventPassed (m : Module) : Type 0 where
 pub event-passed : (m : Module) (later : List Check) (v : Verdict) → verdict (eventChecks m ++ later) ≡ v → NotBy (eventChecks m) v
     → EventPassed m × (verdict later ≡ v)
 event-passed m later v e n =
-    let q = past-rows (eventChecks m) later v e n in
-    (
+    let q = past-rows (eventChecks m) later v e n in (
       record {
         whole = eqb-true (length (m .area)) areaSize (not-false _ (q .0 .0));
         sound = not-false (possible (m .device)) (q .0 .1 .0);

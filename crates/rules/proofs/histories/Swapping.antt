@@ -5,7 +5,7 @@ use mathlib.Core.Logic.{_⊎_, inl, inr}
 use mathlib.Core.Bool.{Bool, true, false}
 use mathlib.Core.List.{[], List, _∷_, _++_}
 use Rattle.rules.specs.History.{Machine, ExchangeOf, Plays, end, keep, only, except, All, Same}
-use Rattle.rules.proofs.Joining.{same-refl, same-trans, same-cons}
+use Rattle.rules.proofs.histories.Joining.{same-refl, same-trans, same-cons}
 
 -- at the state s, x and then y may as well be y and then x
 pub record Swaps {S E A : Type 0} (M : Machine S E A) (s : S) (x y : ExchangeOf E A) : Type 0 where

@@ -11,14 +11,14 @@ use Rattle.rules.specs.History.{Plays, end, All}
 use Rattle.rules.specs.Transfers.{machine, Exchange, History, Started, kindOf}
 use Rattle.rules.specs.Demand3.{Sound, NeverAgain}
 use Rattle.rules.specs.declared.Transfer.{Transfer}
-use Rattle.rules.proofs.Joining.{plays-right}
-use Rattle.rules.proofs.Choice.{if-both}
-use Rattle.rules.proofs.Split.{TransferPart, partOf, partChange, partVerdict, partNext, Act, Transfers, act, answers, nexts, inner, givenIn}
-use Rattle.rules.proofs.Through.{kind-act}
-use Rattle.rules.proofs.Facts.{changes, good}
-use Rattle.rules.proofs.KindOf.{StartAct, started-act, good-accepted, given-number}
-use Rattle.rules.proofs.Gate.{Remains, inwards, sound-inner}
-use Rattle.rules.proofs.Invariant.{Invariant, keeps-end, by-tick}
+use Rattle.rules.proofs.histories.Joining.{plays-right}
+use Rattle.rules.proofs.page.Choice.{if-both}
+use Rattle.rules.proofs.page.Split.{TransferPart, partOf, partChange, partVerdict, partNext, Act, Transfers, act, answers, nexts, inner, givenIn}
+use Rattle.rules.proofs.page.Through.{kind-act}
+use Rattle.rules.proofs.page.Facts.{changes, good}
+use Rattle.rules.proofs.histories.KindOf.{StartAct, started-act, good-accepted, given-number}
+use Rattle.rules.proofs.histories.Gate.{Remains, inwards, sound-inner, keeps-end}
+use Rattle.rules.proofs.page.Invariant.{Invariant, by-tick}
 use mathlib.Core.Bool.{Bool}
 use Rattle.rules.specs.declared.Verdict.the-variants.{Accepted}
 

@@ -20,10 +20,10 @@ use Rattle.rules.specs.declared.Refusal.{Refusal}
 use Rattle.rules.specs.declared.Refusal.the-variants.{R, Status}
 use Rattle.rules.specs.declared.Verdict.{Verdict}
 use Rattle.rules.specs.declared.Verdict.the-variants.{Accepted, Refused}
-use Rattle.rules.proofs.Choice.{and-true}
-use Rattle.rules.proofs.Passed.{every, by-rows}
-use Rattle.rules.proofs.Rows.{looked-up}
-use Rattle.rules.proofs.Possible.{possible-fresh, possible-next, area-next, only-R1}
+use Rattle.rules.proofs.page.Choice.{and-true}
+use Rattle.rules.proofs.page.Passed.{every, by-rows}
+use Rattle.rules.proofs.page.Rows.{looked-up}
+use Rattle.rules.proofs.page.Possible.{possible-fresh, possible-next, area-next, only-R1}
 
 -- a verdict that a function with an answer of n bytes may give: a refusal has a number, and its column is its length
 abbrev allowed : (n : ℕ) → Verdict → Bool

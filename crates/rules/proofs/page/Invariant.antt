@@ -1,5 +1,5 @@
--- Kept by every event: a property of the transfer's part that an accepted call, a tick and a power cycle keep holds at the end of any history. Each
--- invariant is an instance, with one clause for each kind of event.
+-- Kept by every event: a property of the transfer's part that an accepted call, a tick and a power cycle keep. Each invariant is an instance, with one
+-- clause for each kind of event; that it holds at the end of any history is proved once (histories/Gate.antt).
 -- Assumes nothing.
 use Prim.Native.Nat.{ℕ, _-_, _<_}
 use mathlib.Core.Path.{_≡_, refl, sym, subst}
@@ -7,15 +7,12 @@ use mathlib.Core.Bool.{Bool}
 use Rattle.rules.specs.With.{_with-ticks_, _with-phase_, _with-staged_}
 use Rattle.rules.specs.Record.{Module}
 use Rattle.rules.specs.Transfer.{TransferCall}
-use Rattle.rules.specs.History.{end, afterExchange}
-use Rattle.rules.specs.Transfers.{History}
 use Rattle.rules.specs.declared.Phase.the-variants.{Verifying, Staged, Failed}
 use Rattle.rules.specs.declared.Transfer.{Transfer}
 use Rattle.rules.specs.declared.Verdict.{Verdict}
 use Rattle.rules.specs.declared.Verdict.the-variants.{Accepted, Refused}
-use Rattle.rules.proofs.Joining.{kept-along}
-use Rattle.rules.proofs.Split.{TransferPart, _with-part_, partOf, partVerdict, partChange, partAfter, partTick, partPower, Act, Transfers, Others, Ticks, Powers, act, nexts, inner}
-use Rattle.rules.proofs.Facts.{Tick, calm, counting, good, bad, tick-case}
+use Rattle.rules.proofs.page.Split.{TransferPart, _with-part_, partOf, partVerdict, partChange, partAfter, partTick, partPower, Act, Transfers, Others, Ticks, Powers, nexts}
+use Rattle.rules.proofs.page.Facts.{Tick, calm, counting, good, bad, tick-case}
 
 -- what holds of a part and of its change by an accepted call holds after the call
 pub part-when : (P : TransferPart → Type 0) (v : Verdict) (s : TransferPart) (x : TransferCall) → P s → (v ≡ Accepted → P (partChange s x)) → P (partAfter v s x)
@@ -47,8 +44,3 @@ keeps-next {P} i m (Transfers host a b x n answer) p = part-when P (partVerdict 
 keeps-next {P} i m (Others a b x n answer) p = p
 keeps-next {P} i m Ticks p = i .ticked (partOf m) p
 keeps-next {P} i m Powers p = i .powered (partOf m) p
-
--- and so holds at the end
-pub keeps-end : {P : TransferPart → Type 0} → Invariant P → (m : Module) (h : History) → P (partOf m) → P (partOf (end inner m h))
-keeps-end {P} i m h p =
-    kept-along (afterExchange inner) (λ (u : Module). P (partOf u)) (λ u x q. keeps-next {P = P} i u (act (x .event)) q) m h p

@@ -23,11 +23,11 @@ use Rattle.rules.specs.declared.Phase.{Phase}
 use Rattle.rules.specs.declared.Phase.the-variants.{Idle, Receiving, Verifying, Staged, Failed}
 use Rattle.rules.specs.declared.Transfer.{Transfer}
 use Rattle.rules.specs.declared.Security.{Security}
-use Rattle.rules.proofs.Choice.{or-false, and-true, and-6, if-both}
-use Rattle.rules.proofs.Split.{TransferPart, Rest, partOf, restOf, RestCall, Masks, Limits, Locks, Nothing, Act, Transfers, Others, Ticks, Powers, partVerdict, partChange, partTick, restAfter, restChange, restChecks, restNext, restPower, nexts, givenIn}
-use Rattle.rules.proofs.Through.{mild}
-use Rattle.rules.proofs.Facts.{never, start-ok, send-ok, finish-ok}
-use Rattle.rules.proofs.Invariant.{by-tick, Invariant, keeps-next}
+use Rattle.rules.proofs.page.Choice.{or-false, and-true, and-6, if-both}
+use Rattle.rules.proofs.page.Split.{TransferPart, Rest, partOf, restOf, RestCall, Masks, Limits, Locks, Nothing, Act, Transfers, Others, Ticks, Powers, partVerdict, partChange, partTick, restAfter, restChange, restChecks, restNext, restPower, nexts, givenIn}
+use Rattle.rules.proofs.page.Through.{mild}
+use Rattle.rules.proofs.page.Facts.{never, start-ok, send-ok, finish-ok}
+use Rattle.rules.proofs.page.Invariant.{by-tick, Invariant, keeps-next}
 
 -- the transfer's part, phase by phase
 abbrev pub PhaseOk : Phase → Transfer → Type 0

@@ -12,17 +12,15 @@ use Rattle.rules.specs.Bytes.{zeros?}
 use Rattle.rules.specs.Numbers.{areaSize}
 use Rattle.rules.specs.Record.{fresh, possible, possibleTransfer, possibleSecurity, possibleThresholds, Module}
 use Rattle.rules.specs.Module.{Event, step}
-use Rattle.rules.specs.History.{end, afterExchange}
-use Rattle.rules.specs.Transfers.{machine, History}
+use Rattle.rules.specs.Transfers.{machine}
 use Rattle.rules.specs.Demand3.{freshWith, Sound}
 use Rattle.rules.specs.declared.Refusal.the-variants.{R}
 use Rattle.rules.specs.declared.Verdict.the-variants.{Refused}
-use Rattle.rules.proofs.Split.{Act, act, nexts}
-use Rattle.rules.proofs.Through.{noR, Through, through, gate-noR, shut}
+use Rattle.rules.proofs.page.Split.{Act, act, nexts}
+use Rattle.rules.proofs.page.Through.{noR, Through, through, gate-noR, shut}
 use Rattle.rules.specs.Demand1.{bufferTooShort}
-use Rattle.rules.proofs.Keeps.{Ok, ok-next, ok-possible, possible-ok, Fit, fit}
-use Rattle.rules.proofs.Joining.{kept-along}
-use Rattle.rules.proofs.Invariant.{keeps-next}
+use Rattle.rules.proofs.page.Keeps.{Ok, ok-next, ok-possible, possible-ok, Fit, fit}
+use Rattle.rules.proofs.page.Invariant.{keeps-next}
 
 -- "Fresh" is possible.
 pub possible-fresh : possible fresh ≡ true
@@ -73,6 +71,3 @@ sound-next m event w = go (bufferTooShort event) refl
     go : (b : Bool) → bufferTooShort event ≡ b → Sound (machine .next m event)
     go true e = subst (λ (u : Module). Sound u) (sym (shut m event e .same)) w
     go false e = subst (λ (u : Module). Sound u) (sym (sound-through m event w e .nexts-as)) (sound-act m (act event) w)
-
-pub sound-end : (m : Module) (h : History) → Sound m → Sound (end machine m h)
-sound-end m h w = kept-along (afterExchange machine) Sound (λ u x s. sound-next u (x .event) s) m h w

@@ -20,18 +20,18 @@ use Rattle.rules.specs.Demand3.{remains, Sound}
 use Rattle.rules.specs.declared.Phase.{Phase}
 use Rattle.rules.specs.declared.Phase.the-variants.{Receiving, Verifying}
 use Rattle.rules.specs.declared.Transfer.{Transfer}
-use Rattle.rules.proofs.Choice.{if-both}
-use Rattle.rules.proofs.Split.{TransferPart, partOf, Act, Transfers, Others, Ticks, Powers, act, partChange, partNext, partTick, answers, nexts, inner, actKind, givenIn}
-use Rattle.rules.proofs.Through.{kind-act}
-use Rattle.rules.proofs.Facts.{never, Kept, accepted-call, changes, was-served, SendOk, send-ok, finish-ok}
-use Rattle.rules.proofs.Possible.{sound-act}
-use Rattle.rules.proofs.Gate.{Remains}
-use Rattle.rules.proofs.KindOf.{accepted-good, NoStart}
-use Rattle.rules.proofs.Swap.{still}
-use Rattle.rules.proofs.Inside.{Begun, begun}
-use Rattle.rules.proofs.Honest.{UsesAct}
-use Rattle.rules.proofs.Invariant.{by-tick}
-use Rattle.rules.proofs.Keeps.{tick-given}
+use Rattle.rules.proofs.page.Choice.{if-both}
+use Rattle.rules.proofs.page.Split.{TransferPart, partOf, Act, Transfers, Others, Ticks, Powers, act, partChange, partNext, partTick, answers, nexts, inner, actKind, givenIn}
+use Rattle.rules.proofs.page.Through.{kind-act}
+use Rattle.rules.proofs.page.Facts.{never, Kept, accepted-call, changes, was-served, SendOk, send-ok, finish-ok}
+use Rattle.rules.proofs.page.Possible.{sound-act}
+use Rattle.rules.proofs.histories.Gate.{Remains}
+use Rattle.rules.proofs.histories.KindOf.{accepted-good, NoStart}
+use Rattle.rules.proofs.histories.Swap.{still}
+use Rattle.rules.proofs.histories.Inside.{Begun, begun}
+use Rattle.rules.proofs.histories.Honest.{UsesAct}
+use Rattle.rules.proofs.page.Invariant.{by-tick}
+use Rattle.rules.proofs.page.Keeps.{tick-given}
 
 -- the transfer with this context is receiving, and has these bytes
 pub record Holding (context : ℕ) (bytes : List ℕ) (s : TransferPart) : Type 0 where

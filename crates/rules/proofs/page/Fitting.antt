@@ -14,8 +14,8 @@ use Rattle.rules.specs.Record.{Module}
 use Rattle.rules.specs.Module.{gateChecks}
 use Rattle.rules.specs.declared.Row.{Row}
 use Rattle.rules.specs.declared.Verdict.the-variants.{Accepted}
-use Rattle.rules.proofs.Rows.{looked-up}
-use Rattle.rules.proofs.Passed.{passed}
+use Rattle.rules.proofs.page.Rows.{looked-up}
+use Rattle.rules.proofs.page.Passed.{passed}
 use Rattle.rules.specs.declared.Function.{Function}
 use Rattle.rules.specs.declared.Function.the-variants.{Mask, GetThreshold, GetFwInfo, Start, Send, Finish, Query, SetThreshold, GetSecurityState, SetPassphrase, Disable, Unlock, Freeze, Unserved}
 

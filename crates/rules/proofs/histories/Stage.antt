@@ -23,15 +23,16 @@ use Rattle.rules.specs.declared.Image.the-variants.{Good, Bad}
 use Rattle.rules.specs.declared.Phase.{Phase}
 use Rattle.rules.specs.declared.Phase.the-variants.{Receiving, Verifying, Staged}
 use Rattle.rules.specs.declared.Transfer.{Transfer}
-use Rattle.rules.proofs.Choice.{if-both, and-true}
-use Rattle.rules.proofs.Joining.{end-join, counted-along, total-none}
-use Rattle.rules.proofs.Split.{TransferPart, partOf, Act, Transfers, Others, Ticks, Powers, act, actOf, unserved?, misfit?, partVerdict, partChange, partNext, partTick, nexts, actKind}
-use Rattle.rules.proofs.Through.{shut, kind-act}
+use Rattle.rules.proofs.page.Choice.{if-both, and-true}
+use Rattle.rules.proofs.histories.Joining.{end-join, counted-along, total-none}
+use Rattle.rules.proofs.page.Split.{TransferPart, partOf, Act, Transfers, Others, Ticks, Powers, act, actOf, unserved?, misfit?, partVerdict, partChange, partNext, partTick, nexts, actKind}
+use Rattle.rules.proofs.page.Through.{shut, kind-act}
 use Rattle.rules.specs.Demand1.{bufferTooShort}
-use Rattle.rules.proofs.Facts.{never, is-phase, start-ok, send-ok, finish-ok, Tick, calm, counting, good, bad, tick-case}
-use Rattle.rules.proofs.Invariant.{part-when}
-use Rattle.rules.proofs.Possible.{sound-through, sound-next, sound-end}
-use Rattle.rules.proofs.Swap.{still}
+use Rattle.rules.proofs.page.Facts.{never, is-phase, start-ok, send-ok, finish-ok, Tick, calm, counting, good, bad, tick-case}
+use Rattle.rules.proofs.page.Invariant.{part-when}
+use Rattle.rules.proofs.page.Possible.{sound-through, sound-next}
+use Rattle.rules.proofs.histories.Swap.{still}
+use Rattle.rules.proofs.histories.Gate.{sound-end}
 
 -- the next tick stages the version
 pub record Ripe (s : TransferPart) (version : ℕ) : Type 0 where

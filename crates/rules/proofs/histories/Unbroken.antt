@@ -13,13 +13,13 @@ use Rattle.rules.specs.Transfers.{machine, Exchange, History, Kind, Star
 use Rattle.rules.specs.Sends.{isSendOf, ownSends, others, FinishedIn}
 use Rattle.rules.specs.Moves.{moved, ByMoves, as-it-is, one-more, isFinishOf, itsFinish, settle, rearranged, Unbroken}
 use Rattle.rules.specs.Demand3.{Sound, AllMoved}
-use Rattle.rules.proofs.Choice.{or-true}
-use Rattle.rules.proofs.Joining.{same-refl, same-trans}
-use Rattle.rules.proofs.Possible.{sound-next}
-use Rattle.rules.proofs.Gate.{Remains, inwards}
-use Rattle.rules.proofs.KindOf.{NoStart}
-use Rattle.rules.proofs.Inside.{Within}
-use Rattle.rules.proofs.Moved.{move, all-by-moves, between-within, free-of, all-no-finish}
+use Rattle.rules.proofs.page.Choice.{or-true}
+use Rattle.rules.proofs.histories.Joining.{same-refl, same-trans}
+use Rattle.rules.proofs.page.Possible.{sound-next}
+use Rattle.rules.proofs.histories.Gate.{Remains, inwards}
+use Rattle.rules.proofs.histories.KindOf.{NoStart}
+use Rattle.rules.proofs.histories.Inside.{Within}
+use Rattle.rules.proofs.histories.Moved.{move, all-by-moves, between-within, free-of, all-no-finish}
 
 -- the first Finish of the context c in r
 record Split (c : ℕ) (r : History) : Type 0 where

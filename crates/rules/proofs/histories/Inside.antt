@@ -19,17 +19,17 @@ use Rattle.rules.specs.declared.Verdict.the-variants.{Accepted}
 use Rattle.rules.specs.declared.Phase.{Phase}
 use Rattle.rules.specs.declared.Phase.the-variants.{Receiving, Verifying}
 use Rattle.rules.specs.declared.Transfer.{Transfer}
-use Rattle.rules.proofs.Choice.{if-both}
-use Rattle.rules.proofs.Joining.{all-left, plays-left, plays-right, same-cons, same-trans}
-use Rattle.rules.proofs.Swapping.{Either, gather, sink, frees}
-use Rattle.rules.proofs.Split.{TransferPart, partOf, Act, Transfers, Others, Ticks, Powers, act, partVerdict, partChange, partAnswer, answers, nexts, inner, actKind, givenIn, partPower, _with-part_}
-use Rattle.rules.proofs.Through.{kind-act}
-use Rattle.rules.proofs.Facts.{never, Kept, accepted-call, changes, StartOk, start-ok, send-ok, finish-ok, FinishOk, query-ok, good}
-use Rattle.rules.proofs.Possible.{sound-act}
-use Rattle.rules.proofs.Gate.{Remains}
-use Rattle.rules.proofs.KindOf.{good-accepted, accepted-good, StartAct, started-act, FinishAct, finished-act, given-number}
-use Rattle.rules.proofs.Swap.{OwnAct, FreeAct, Own, Free, swaps, still}
-use Rattle.rules.proofs.Invariant.{Invariant, keeps-end, by-tick}
+use Rattle.rules.proofs.page.Choice.{if-both}
+use Rattle.rules.proofs.histories.Joining.{all-left, plays-left, plays-right, same-cons, same-trans}
+use Rattle.rules.proofs.histories.Swapping.{Either, gather, sink, frees}
+use Rattle.rules.proofs.page.Split.{TransferPart, partOf, Act, Transfers, Others, Ticks, Powers, act, partVerdict, partChange, partAnswer, answers, nexts, inner, actKind, givenIn, partPower, _with-part_}
+use Rattle.rules.proofs.page.Through.{kind-act}
+use Rattle.rules.proofs.page.Facts.{never, Kept, accepted-call, changes, StartOk, start-ok, send-ok, finish-ok, FinishOk, query-ok, good}
+use Rattle.rules.proofs.page.Possible.{sound-act}
+use Rattle.rules.proofs.histories.Gate.{Remains, keeps-end}
+use Rattle.rules.proofs.histories.KindOf.{good-accepted, accepted-good, StartAct, started-act, FinishAct, finished-act, given-number}
+use Rattle.rules.proofs.histories.Swap.{OwnAct, FreeAct, Own, Free, swaps, still}
+use Rattle.rules.proofs.page.Invariant.{Invariant, by-tick}
 
 -- The transfer with the context c is over: no event brings it back
 pub record Gone (c : ℕ) (s : TransferPart) : Type 0 where

@@ -10,13 +10,13 @@ use Rattle.rules.specs.History.{Plays, All}
 use Rattle.rules.specs.Transfers.{Exchange, History, Kind, Started, Sent, Finished, Ticked, Powered, Other, kindOf, Open, none, by, withPiece, openAfter, ContextIs, InOrder, StarterIs, ByStarter, AllByStarter}
 use Rattle.rules.specs.Hosts.{AnsweredTo, HonestAfter}
 use Rattle.rules.specs.Demand3.{Sound}
-use Rattle.rules.proofs.Split.{TransferPart, partOf, act, inner, givenIn}
-use Rattle.rules.proofs.Possible.{sound-act}
-use Rattle.rules.proofs.Gate.{Remains}
-use Rattle.rules.proofs.KindOf.{NoStart}
-use Rattle.rules.proofs.Inside.{Begun, begun}
-use Rattle.rules.proofs.Honest.{uses-act}
-use Rattle.rules.proofs.Order.{Fits, UsesKind, goes}
+use Rattle.rules.proofs.page.Split.{TransferPart, partOf, act, inner, givenIn}
+use Rattle.rules.proofs.page.Possible.{sound-act}
+use Rattle.rules.proofs.histories.Gate.{Remains}
+use Rattle.rules.proofs.histories.KindOf.{NoStart}
+use Rattle.rules.proofs.histories.Inside.{Begun, begun}
+use Rattle.rules.proofs.histories.Honest.{uses-act}
+use Rattle.rules.proofs.histories.Order.{Fits, UsesKind, goes}
 
 -- the open transfer's context was answered to its host alone
 abbrev Sole : History → Open → Type 0

@@ -19,16 +19,16 @@ use Rattle.rules.specs.Demand3.{remains, Sound, Due}
 use Rattle.rules.specs.declared.Phase.{Phase}
 use Rattle.rules.specs.declared.Phase.the-variants.{Idle, Verifying}
 use Rattle.rules.specs.declared.Transfer.{Transfer}
-use Rattle.rules.proofs.Joining.{plays-right, end-join, counted-along, total-join, leads-join, throughout-left, total-none}
-use Rattle.rules.proofs.Split.{TransferPart, partOf, Act, Transfers, Others, Ticks, Powers, act, partChange, partNext, partTick, answers, nexts, inner, actKind, _with-part_}
-use Rattle.rules.proofs.Through.{kind-act}
-use Rattle.rules.proofs.Facts.{never, Kept, accepted-call, changes, send-ok, finish-ok, Tick, calm, counting, good, bad, tick-case}
-use Rattle.rules.proofs.Possible.{sound-act}
-use Rattle.rules.proofs.Gate.{Remains}
-use Rattle.rules.proofs.KindOf.{good-accepted, accepted-good, FinishAct, finished-act}
-use Rattle.rules.proofs.Order.{openAtEnd, Fits, goes, orders, chosen, bytes-open}
-use Rattle.rules.proofs.Pieces.{AtFinish, at-finish, Opened, opened}
-use Rattle.rules.proofs.Stage.{Ripe, quiet, busy, no-tick}
+use Rattle.rules.proofs.histories.Joining.{plays-right, end-join, counted-along, total-join, leads-join, throughout-left, total-none}
+use Rattle.rules.proofs.page.Split.{TransferPart, partOf, Act, Transfers, Others, Ticks, Powers, act, partChange, partNext, partTick, answers, nexts, inner, actKind, _with-part_}
+use Rattle.rules.proofs.page.Through.{kind-act}
+use Rattle.rules.proofs.page.Facts.{never, Kept, accepted-call, changes, send-ok, finish-ok, Tick, calm, counting, good, bad, tick-case}
+use Rattle.rules.proofs.page.Possible.{sound-act}
+use Rattle.rules.proofs.histories.Gate.{Remains}
+use Rattle.rules.proofs.histories.KindOf.{good-accepted, accepted-good, FinishAct, finished-act}
+use Rattle.rules.proofs.histories.Order.{openAtEnd, Fits, goes, orders, chosen, bytes-open}
+use Rattle.rules.proofs.histories.Pieces.{AtFinish, at-finish, Opened, opened}
+use Rattle.rules.proofs.histories.Stage.{Ripe, quiet, busy, no-tick}
 
 abbrev pub bytesOf : TransferPart → List ℕ
 bytesOf s = receivedBytes (s .transfer) (s .area)

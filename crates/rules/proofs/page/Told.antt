@@ -9,7 +9,7 @@ use Rattle.rules.specs.Module.{callOf, checks, acceptedAnswer, change}
 use Rattle.rules.specs.declared.Verdict.{Verdict}
 use Rattle.rules.specs.declared.Verdict.the-variants.{Accepted}
 use Rattle.rules.specs.declared.Function.{Function}
-use Rattle.rules.proofs.Fitting.{Fitting}
+use Rattle.rules.proofs.page.Fitting.{Fitting}
 
 -- the bytes that the function reads are there
 pub there : {f g : Function} (size : ℕ) → f ≡ g → Fitting f size → Fitting g size

@@ -14,7 +14,7 @@ use Rattle.rules.specs.Demand3.{remains, StrikeOut}
 use Rattle.rules.specs.declared.Refusal.the-variants.{R, Status}
 use Rattle.rules.specs.declared.Verdict.{Verdict}
 use Rattle.rules.specs.declared.Verdict.the-variants.{Accepted, Refused}
-use Rattle.rules.proofs.Swapping.{strike}
+use Rattle.rules.proofs.histories.Swapping.{strike}
 
 outcome-leaves : (v : Verdict) (m : Module) (c : Call) (n : ℕ) (answer : List ℕ) → remains (outcome v m c n answer .reply .verdict) ≡ false
     → outcome v m c n answer .after ≡ m

@@ -7,7 +7,7 @@ use mathlib.Core.List.{[], List, _∷_, _++_}
 use Rattle.rules.specs.declared.Verdict.{Verdict}
 use Rattle.rules.specs.declared.Verdict.the-variants.{Accepted, Refused}
 use Rattle.rules.specs.Refusals.{Check, _gives_, verdict, refused?}
-use Rattle.rules.proofs.Choice.{and-true}
+use Rattle.rules.proofs.page.Choice.{and-true}
 
 abbrev pub AllFalse : List Check → Type 0
 AllFalse [] = Unit {0}

@@ -7,12 +7,13 @@ use Rattle.rules.specs.Record.{Module}
 use Rattle.rules.specs.History.{Plays, end, All, Same, afterExchange}
 use Rattle.rules.specs.Transfers.{Answer, machine, Exchange, History}
 use Rattle.rules.specs.Demand3.{remains, Sound}
-use Rattle.rules.proofs.Split.{act, inner}
-use Rattle.rules.proofs.Through.{Through, shut}
+use Rattle.rules.proofs.page.Split.{act, inner, TransferPart, partOf}
+use Rattle.rules.proofs.page.Through.{Through, shut}
 use Rattle.rules.specs.Demand1.{bufferTooShort}
-use Rattle.rules.proofs.Facts.{Kept}
-use Rattle.rules.proofs.Possible.{sound-act, sound-through}
-use Rattle.rules.proofs.Joining.{kept-along}
+use Rattle.rules.proofs.page.Facts.{Kept}
+use Rattle.rules.proofs.page.Possible.{sound-act, sound-through, sound-next}
+use Rattle.rules.proofs.histories.Joining.{kept-along}
+use Rattle.rules.proofs.page.Invariant.{Invariant, keeps-next}
 
 -- the exchange remains; its answer buffer is long enough
 abbrev pub Remains : Exchange → Type 0
@@ -51,6 +52,14 @@ outwards m (x ∷ h) w p r =
     let t : Through m (x .event) = sound-through m (x .event) w (r .0) in
     let i : Outward (inner .next m (x .event)) h = outwards (inner .next m (x .event)) h (sound-act m (act (x .event)) w) (p .1) (r .1) in
     record { plays = (t .answers-as ∙ p .0, subst (λ (u : Module). Plays machine u h) (sym (t .nexts-as)) (i .plays)); ends = ap (λ (u : Module). end machine u h) (t .nexts-as) ∙ i .ends }
+
+-- what is kept by every event holds at the end
+pub keeps-end : {P : TransferPart → Type 0} → Invariant P → (m : Module) (h : History) → P (partOf m) → P (partOf (end inner m h))
+keeps-end {P} i m h p =
+    kept-along (afterExchange inner) (λ (u : Module). P (partOf u)) (λ u x q. keeps-next {P = P} i u (act (x .event)) q) m h p
+
+pub sound-end : (m : Module) (h : History) → Sound m → Sound (end machine m h)
+sound-end m h w = kept-along (afterExchange machine) Sound (λ u x s. sound-next u (x .event) s) m h w
 
 pub sound-inner : (m : Module) (h : History) → Sound m → Sound (end inner m h)
 sound-inner m h w = kept-along (afterExchange inner) Sound (λ u x s. sound-act u (act (x .event)) s) m h w

@@ -13,12 +13,12 @@ use Rattle.rules.specs.History.{Plays, end, All, keep}
 use Rattle.rules.specs.Transfers.{machine, Exchange, History, Kind, Started, Sent, Finished, Ticked, Powered, Other, kindOf, Open, none, by, bytesSoFar, openAfter, InOrder, AllInOrder, ByStarter, AllByStarter, openNext}
 use Rattle.rules.specs.Sends.{isSendOf, ownSends, pieceOf, pieces, SentBy, FinishedIn}
 use Rattle.rules.specs.Demand3.{Sound, Received, OwnPieces}
-use Rattle.rules.proofs.Joining.{all-left, plays-left, plays-right, leads-join, throughout-left, throughout-right}
-use Rattle.rules.proofs.Split.{partOf, inner}
-use Rattle.rules.proofs.Gate.{Remains, inwards}
-use Rattle.rules.proofs.Inside.{Within, finish-at}
-use Rattle.rules.proofs.Moved.{between-within, free-of}
-use Rattle.rules.proofs.Order.{openAtEnd, Fits, bytes-open, fits-at}
+use Rattle.rules.proofs.histories.Joining.{all-left, plays-left, plays-right, leads-join, throughout-left, throughout-right}
+use Rattle.rules.proofs.page.Split.{partOf, inner}
+use Rattle.rules.proofs.histories.Gate.{Remains, inwards}
+use Rattle.rules.proofs.histories.Inside.{Within, finish-at}
+use Rattle.rules.proofs.histories.Moved.{between-within, free-of}
+use Rattle.rules.proofs.histories.Order.{openAtEnd, Fits, bytes-open, fits-at}
 
 -- an own Send adds its piece; one that may move adds nothing
 own-opens : (host c : ℕ) (bytes : List ℕ) (k : Kind) → isSendOf c k ≡ true → openAfter (by host c bytes) k ≡ by host c (bytes ++ pieceOf k)

@@ -12,8 +12,8 @@ use Rattle.rules.specs.Refusals.{verdict}
 use Rattle.rules.specs.Transfer.{startChecks, sendChecks}
 use Rattle.rules.specs.declared.Verdict.the-variants.{Accepted}
 use Rattle.rules.specs.declared.Transfer.{Transfer}
-use Rattle.rules.proofs.Choice.{or-false}
-use Rattle.rules.proofs.Passed.{passed}
+use Rattle.rules.proofs.page.Choice.{or-false}
+use Rattle.rules.proofs.page.Passed.{passed}
 use Rattle.rules.specs.Record.{given}
 
 -- a Start that is accepted: a number is left to give

@@ -14,9 +14,9 @@ use Rattle.rules.specs.declared.Verdict.the-variants.{Accepted, Refused}
 use Rattle.rules.specs.declared.Phase.{Phase}
 use Rattle.rules.specs.declared.Phase.the-variants.{Receiving, Verifying}
 use Rattle.rules.specs.declared.Transfer.{Transfer}
-use Rattle.rules.proofs.Split.{TransferPart, partOf, restOf, join, Act, Transfers, Others, Ticks, Powers, act, front, partVerdict, partAfter, partAnswer, partNext, partTick, answers, nexts, inner}
-use Rattle.rules.proofs.Facts.{never, Kept, accepted-call, changes, start-ok, send-ok, Tick, calm, counting, good, bad, tick-case}
-use Rattle.rules.proofs.Swapping.{Swaps}
+use Rattle.rules.proofs.page.Split.{TransferPart, partOf, restOf, join, Act, Transfers, Others, Ticks, Powers, act, front, partVerdict, partAfter, partAnswer, partNext, partTick, answers, nexts, inner}
+use Rattle.rules.proofs.page.Facts.{never, Kept, accepted-call, changes, start-ok, send-ok, Tick, calm, counting, good, bad, tick-case}
+use Rattle.rules.proofs.histories.Swapping.{Swaps}
 
 -- a Start or a Send
 abbrev pub OwnCall : TransferCall → Type 0

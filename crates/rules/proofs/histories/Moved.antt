@@ -12,12 +12,12 @@ use Rattle.rules.specs.Transfers.{Answer, machine, Exchange, History, Ki
 use Rattle.rules.specs.Sends.{isSendOf, ownSend, ownSends, others, FinishedIn}
 use Rattle.rules.specs.Moves.{moved, ByMoves, as-it-is, one-more, isFinishOf, itsFinish}
 use Rattle.rules.specs.Demand3.{Sound, Move}
-use Rattle.rules.proofs.Joining.{all-left, all-right, all-join, all-only, all-except, plays-left, plays-right, same-under}
-use Rattle.rules.proofs.Split.{Act, Transfers, Others, Ticks, Powers, act, inner, actKind}
-use Rattle.rules.proofs.Through.{kind-act}
-use Rattle.rules.proofs.Gate.{Remains, Roomy, Inward, inwards, sound-inner, same-outward}
-use Rattle.rules.proofs.Swap.{FreeAct, Free}
-use Rattle.rules.proofs.Inside.{Within, Begun, begun, inside, move-here}
+use Rattle.rules.proofs.histories.Joining.{all-left, all-right, all-join, all-only, all-except, plays-left, plays-right, same-under}
+use Rattle.rules.proofs.page.Split.{Act, Transfers, Others, Ticks, Powers, act, inner, actKind}
+use Rattle.rules.proofs.page.Through.{kind-act}
+use Rattle.rules.proofs.histories.Gate.{Remains, Roomy, Inward, inwards, sound-inner, same-outward}
+use Rattle.rules.proofs.histories.Swap.{FreeAct, Free}
+use Rattle.rules.proofs.histories.Inside.{Within, Begun, begun, inside, move-here}
 
 -- what holds of every exchange holds of every exchange after a move
 pub all-move : (P : Exchange → Type 0) {h : History} (f : FinishedIn h) → All P h → All P (moved f)

@@ -17,13 +17,13 @@ use Rattle.rules.specs.Sends.{ticksIn, powerCycles}
 use Rattle.rules.specs.Demand3.{Sound, OneWaits}
 use Rattle.rules.specs.declared.Phase.{Phase}
 use Rattle.rules.specs.declared.Phase.the-variants.{Verifying}
-use Rattle.rules.proofs.Joining.{plays-right}
-use Rattle.rules.proofs.Split.{TransferPart, partOf, Act, Transfers, act, answers, inner}
-use Rattle.rules.proofs.Through.{kind-act}
-use Rattle.rules.proofs.Facts.{never, start-ok}
-use Rattle.rules.proofs.KindOf.{StartAct, started-act, good-accepted}
-use Rattle.rules.proofs.Gate.{Remains, inwards}
-use Rattle.rules.proofs.Due.{Held, held, after-finish}
+use Rattle.rules.proofs.histories.Joining.{plays-right}
+use Rattle.rules.proofs.page.Split.{TransferPart, partOf, Act, Transfers, act, answers, inner}
+use Rattle.rules.proofs.page.Through.{kind-act}
+use Rattle.rules.proofs.page.Facts.{never, start-ok}
+use Rattle.rules.proofs.histories.KindOf.{StartAct, started-act, good-accepted}
+use Rattle.rules.proofs.histories.Gate.{Remains, inwards}
+use Rattle.rules.proofs.histories.Due.{Held, held, after-finish}
 
 -- an accepted Start finds no image that is being verified
 start-at : (m : Module) (x : Exchange) (host context : ℕ) → kindOf x ≡ Started host context → inner .answer m (x .event) ≡ x .got → (m .device .transfer .phase is Verifying) ≡ false

@@ -22,12 +22,12 @@ use Rattle.rules.specs.declared.Verdict.the-variants.{Accepted, Refused}
 use Rattle.rules.specs.declared.Row.{Row}
 use Rattle.rules.specs.declared.Function.{Function}
 use Rattle.rules.specs.declared.Function.the-variants as Function′
-use Rattle.rules.proofs.Choice.{and-true, if-both}
-use Rattle.rules.proofs.Split.{Act, Transfers, Others, Ticks, Powers, act, actOf, unserved?, misfit?}
-use Rattle.rules.proofs.Through.{kind-act}
-use Rattle.rules.proofs.Facts.{never}
-use Rattle.rules.proofs.KindOf.{started-act}
-use Rattle.rules.proofs.Gate.{Remains}
+use Rattle.rules.proofs.page.Choice.{and-true, if-both}
+use Rattle.rules.proofs.page.Split.{Act, Transfers, Others, Ticks, Powers, act, actOf, unserved?, misfit?}
+use Rattle.rules.proofs.page.Through.{kind-act}
+use Rattle.rules.proofs.page.Facts.{never}
+use Rattle.rules.proofs.histories.KindOf.{started-act}
+use Rattle.rules.proofs.histories.Gate.{Remains}
 
 -- how long a request must be to carry a context
 abbrev needs : Function → ℕ

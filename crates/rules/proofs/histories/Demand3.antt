@@ -6,21 +6,21 @@ use Rattle.rules.specs.Module.{Event, tick}
 use Rattle.rules.specs.History.{historyOf, end, All}
 use Rattle.rules.specs.Transfers.{machine, History, none}
 use Rattle.rules.specs.Demand3.{freshWith, struck, StrikeOut, EachFromOneHost, Stages, Due, StagedExactly, StagedAsSent, Demand3, DemandOfWhatRemains, Sound, FromAnywhere, WithAnyHosts, DemandFromAnywhere, DemandWithAnyHosts}
-use Rattle.rules.proofs.Joining.{plays-log}
-use Rattle.rules.proofs.Struck.{strike-out}
-use Rattle.rules.proofs.Split.{partOf, partTick, inner}
-use Rattle.rules.proofs.Possible.{sound-fresh, sound-through, sound-end}
-use Rattle.rules.proofs.Gate.{Remains, Inward, inwards}
-use Rattle.rules.proofs.Moved.{move}
-use Rattle.rules.proofs.Unbroken.{all-moved}
-use Rattle.rules.proofs.Honest.{all-remains, honest-struck}
-use Rattle.rules.proofs.Order.{orders}
-use Rattle.rules.proofs.Turn.{one-host, hosts-fresh}
-use Rattle.rules.proofs.Pieces.{received, own-pieces}
-use Rattle.rules.proofs.Stage.{Ripe, stages-ripe, ripe-stages, staged-once}
-use Rattle.rules.proofs.Due.{bytesOf, ripe-due, due-ripe, due-sent}
-use Rattle.rules.proofs.Waits.{one-waits}
-use Rattle.rules.proofs.Again.{never-again}
+use Rattle.rules.proofs.histories.Joining.{plays-log}
+use Rattle.rules.proofs.histories.Struck.{strike-out}
+use Rattle.rules.proofs.page.Split.{partOf, partTick, inner}
+use Rattle.rules.proofs.page.Possible.{sound-fresh, sound-through}
+use Rattle.rules.proofs.histories.Gate.{Remains, Inward, inwards, sound-end}
+use Rattle.rules.proofs.histories.Moved.{move}
+use Rattle.rules.proofs.histories.Unbroken.{all-moved}
+use Rattle.rules.proofs.histories.Honest.{all-remains, honest-struck}
+use Rattle.rules.proofs.histories.Order.{orders}
+use Rattle.rules.proofs.histories.Turn.{one-host, hosts-fresh}
+use Rattle.rules.proofs.histories.Pieces.{received, own-pieces}
+use Rattle.rules.proofs.histories.Stage.{Ripe, stages-ripe, ripe-stages, staged-once}
+use Rattle.rules.proofs.histories.Due.{bytesOf, ripe-due, due-ripe, due-sent}
+use Rattle.rules.proofs.histories.Waits.{one-waits}
+use Rattle.rules.proofs.histories.Again.{never-again}
 use mathlib.Core.List.{[]}
 
 -- From every sound module, and with hosts that use any context.

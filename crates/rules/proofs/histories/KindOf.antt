@@ -14,8 +14,8 @@ use Rattle.rules.specs.Transfers.{Answer, Kind, Started, Sent, Finished,
 use Rattle.rules.specs.declared.Refusal.the-variants.{R, Status}
 use Rattle.rules.specs.declared.Verdict.{Verdict}
 use Rattle.rules.specs.declared.Verdict.the-variants.{Accepted, Refused}
-use Rattle.rules.proofs.Split.{TransferPart, Act, Transfers, Others, Ticks, Powers, answerBy, partVerdict, partAnswer, actKind, givenIn}
-use Rattle.rules.proofs.Facts.{never, replies, start-ok}
+use Rattle.rules.proofs.page.Split.{TransferPart, Act, Transfers, Others, Ticks, Powers, answerBy, partVerdict, partAnswer, actKind, givenIn}
+use Rattle.rules.proofs.page.Facts.{never, replies, start-ok}
 
 -- the answer is no refusal
 abbrev pub Good-answer : Answer → Type 0

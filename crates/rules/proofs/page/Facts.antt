@@ -23,10 +23,10 @@ use Rattle.rules.specs.declared.Image.the-variants.{Good, Bad}
 use Rattle.rules.specs.declared.Phase.{Phase}
 use Rattle.rules.specs.declared.Phase.the-variants.{Idle, Receiving, Verifying, Staged, Failed}
 use Rattle.rules.specs.declared.Transfer.{Transfer}
-use Rattle.rules.proofs.Choice.{or-false, and-true}
-use Rattle.rules.proofs.Passed.{AllFalse, passed}
-use Rattle.rules.proofs.Split.{TransferPart, front, answerBy, partVerdict, partChange, partAnswer, partNext}
-use Rattle.rules.proofs.Through.{taken, transfer-mild}
+use Rattle.rules.proofs.page.Choice.{or-false, and-true}
+use Rattle.rules.proofs.page.Passed.{AllFalse, passed}
+use Rattle.rules.proofs.page.Split.{TransferPart, front, answerBy, partVerdict, partChange, partAnswer, partNext}
+use Rattle.rules.proofs.page.Through.{taken, transfer-mild}
 
 pub never : {X : Type 0} → true ≡ false → X
 never e = absurd (true≢false e)

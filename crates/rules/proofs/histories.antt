@@ -1,0 +1,21 @@
+-- Machines and histories, which know no module.
+pub mod Joining
+pub mod Swapping
+-- The module's histories.
+pub mod Struck
+pub mod KindOf
+pub mod Gate
+pub mod Swap
+pub mod Inside
+pub mod Moved
+pub mod Unbroken
+pub mod Honest
+pub mod Order
+pub mod Turn
+pub mod Pieces
+pub mod Stage
+pub mod Due
+pub mod Waits
+pub mod Again
+-- Demand 3.
+pub mod Demand3

@@ -1,0 +1,22 @@
+-- The case list.
+pub mod Claim
+-- Laws of choices, rows and the table, for the theorems below and for the code above.
+pub mod Choice
+pub mod Passed
+pub mod Past
+pub mod Accepted
+pub mod Rows
+pub mod Fitting
+pub mod Told
+pub mod Agree
+pub mod Frozen
+pub mod Area
+-- The module past its R numbers, in two parts; what every event keeps.
+pub mod Split
+pub mod Through
+pub mod Facts
+pub mod Invariant
+pub mod Keeps
+pub mod Possible
+-- Demand 1.
+pub mod Demand1
