@@ -19,8 +19,8 @@ use Rattle.rules.specs.declared.Verdict.{Verdict}
 use Rattle.rules.specs.declared.Verdict.the-variants.{Accepted, Refused}
 use Rattle.rules.specs.declared.Reply.{Reply}
 use Rattle.rules.specs.declared.Device.{Device}
-use Rattle.rules.proofs.Past.{NoR, not-by-event, event-passed, call-passed}
-use Rattle.rules.proofs.Fitting.{answers}
+use Rattle.rules.proofs.page.Past.{NoR, not-by-event, event-passed, call-passed}
+use Rattle.rules.proofs.page.Fitting.{answers}
 use Rattle.module.specs.Promise.{Promised}
 use Rattle.module.specs.declared.Outcome.{Outcome}
 use Rattle.device_encode.specs.Encoding.{encodedSize, encodeOf, decodeOf}

@@ -6,7 +6,7 @@ ghost use Rattle.rules.specs.With.{_with-transfer_, _with-thresholds_, _with-se
 ghost use Rattle.rules.specs.Record.{moduleOf};
 ghost use Rattle.rules.specs.Refusals.{verdict};
 ghost use Rattle.rules.specs.Module.{callOf, checks, change};
-ghost use Rattle.rules.proofs.Fitting.{Fitting};
+ghost use Rattle.rules.proofs.page.Fitting.{Fitting};
 use rules::Device;
 use rules::Function;
 use rules::Security;

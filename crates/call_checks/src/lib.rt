@@ -7,7 +7,7 @@ ghost use Rattle.rules.specs.Record.{moduleOf};
 ghost use Rattle.rules.specs.Refusals.{verdict};
 ghost use Rattle.rules.specs.Table.{rowOf, fits?, servedCheck, lengthCheck};
 ghost use Rattle.rules.specs.Module.{callOf, checks, gateChecks, callChecks};
-ghost use Rattle.rules.proofs.Fitting.{Fitting};
+ghost use Rattle.rules.proofs.page.Fitting.{Fitting};
 use rules::Device;
 use rules::Function;
 use rules::Refusal;

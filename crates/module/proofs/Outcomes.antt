@@ -19,9 +19,9 @@ use Rattle.rules.specs.declared.Verdict.{Verdict}
 use Rattle.rules.specs.declared.Verdict.the-variants.{Accepted, Refused}
 use Rattle.rules.specs.declared.Row.{Row}
 use Rattle.rules.specs.declared.Device.{Device}
-use Rattle.rules.proofs.Passed.{both-accepted}
-use Rattle.rules.proofs.Past.{NoR, EventPassed, call-passed}
-use Rattle.rules.proofs.Fitting.{Fitting, gate-fits, answers}
+use Rattle.rules.proofs.page.Passed.{both-accepted}
+use Rattle.rules.proofs.page.Past.{NoR, EventPassed, call-passed}
+use Rattle.rules.proofs.page.Fitting.{Fitting, gate-fits, answers}
 use Rattle.module.specs.declared.Outcome.{Outcome}
 use Rattle.module.specs.Promise.{Promised}
 

@@ -6,8 +6,8 @@ use lib.ListN.{length-replicate}
 use Rattle.rules.specs.Numbers.{areaSize}
 use Rattle.rules.specs.Log.{recordAt}
 use Rattle.rules.specs.Replay.{replayStart, moduleAfter}
-use Rattle.rules.proofs.Past.{NoR, EventPassed}
-use Rattle.rules.proofs.Possible.{possible-fresh}
+use Rattle.rules.proofs.page.Past.{NoR, EventPassed}
+use Rattle.rules.proofs.page.Possible.{possible-fresh}
 use Rattle.replay_play.specs.Verdicts.{recordVerdict}
 use Rattle.replay_play.proofs.NoR.{no-R}
 

@@ -16,8 +16,8 @@ use Rattle.rules.specs.declared.Verdict.{Verdict}
 use Rattle.rules.specs.declared.Verdict.the-variants.{Accepted, Refused}
 use Rattle.rules.specs.declared.Entry.{Entry}
 use Rattle.rules.specs.declared.Entry.the-variants.{Call, Tick, Power, Bad}
-use Rattle.rules.proofs.Past.{NoR, EventPassed}
-use Rattle.rules.proofs.Possible.{possible-next, area-next, only-R1}
+use Rattle.rules.proofs.page.Past.{NoR, EventPassed}
+use Rattle.rules.proofs.page.Possible.{possible-next, area-next, only-R1}
 use Rattle.replay_play.specs.Verdicts.{entryVerdict, recordVerdict}
 
 event-sound : (m : Module) (event : Event) → bufferTooShort event ≡ false → EventPassed m

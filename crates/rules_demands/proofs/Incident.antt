@@ -19,7 +19,7 @@ use Rattle.rules.specs.Moves.{rearranged}
 use Rattle.rules.specs.Hosts.{Honest}
 use Rattle.rules.specs.Demand3.{freshWith, struck, EachFromOneHost, Demand3Of}
 use Rattle.rules_demands.proofs.Checked.{checked}
-use Rattle.rules.proofs.Demand3.{demand-3}
+use Rattle.rules.proofs.histories.Demand3.{demand-3}
 
 abbrev recorder : ℕ
 recorder = 1

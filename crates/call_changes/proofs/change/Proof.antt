@@ -11,7 +11,7 @@ use Rattle.rules.specs.declared.Device.{Device}
 use Rattle.rules.specs.declared.Transfer.{Transfer}
 use Rattle.rules.specs.declared.Thresholds.{Thresholds}
 use Rattle.rules.specs.declared.Security.{Security}
-use Rattle.rules.proofs.Told.{there, passed, changed}
+use Rattle.rules.proofs.page.Told.{there, passed, changed}
 use borrow.Author.Needs.{needs}
 use Rattle.call_changes.proofs.change.Statement.{statement}
 use Rattle.call_changes.proofs.change.Tie as tie

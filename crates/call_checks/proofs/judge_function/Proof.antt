@@ -6,7 +6,7 @@ use lib.ListN.{length}
 use lib.Seq.{length-take-le}
 use Rattle.rules.specs.Record.{moduleOf}
 use Rattle.rules.specs.Refusals.{verdict}
-use Rattle.rules.proofs.Told.{there, judged}
+use Rattle.rules.proofs.page.Told.{there, judged}
 use borrow.Author.Needs.{needs}
 use Rattle.call_checks.proofs.judge_function.Statement.{statement}
 use Rattle.call_checks.proofs.judge_function.Tie as tie

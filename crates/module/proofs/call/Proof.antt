@@ -4,7 +4,7 @@ use native.Mathlib.Omega.{arith}
 use mathlib.Core.Path.{sym, _∙_, ap}
 use Rattle.rules.specs.Record.{moduleOf}
 use Rattle.rules.specs.declared.Verdict.the-variants.{Accepted, Refused}
-use Rattle.rules.proofs.Past.{attempts-most}
+use Rattle.rules.proofs.page.Past.{attempts-most}
 use Rattle.module.proofs.Outcomes.{as-accepted, as-R, as-status, room, event-checks, fits, own-checks, status-fits}
 use borrow.Author.Needs.{needs}
 use Rattle.module.proofs.call.Statement.{statement}

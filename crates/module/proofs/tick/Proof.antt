@@ -7,7 +7,7 @@ use Rattle.rules.specs.With.{_with-transfer_}
 use Rattle.rules.specs.Record.{moduleOf}
 use Rattle.rules.specs.Module.{ticked, tickResult}
 use Rattle.rules.specs.declared.Transfer.{Transfer}
-use Rattle.rules.proofs.Past.{event-passed, not-by-event, received-most}
+use Rattle.rules.proofs.page.Past.{event-passed, not-by-event, received-most}
 use Rattle.module.proofs.Outcomes.{as-changed, as-left}
 use borrow.Author.Needs.{needs}
 use Rattle.module.proofs.tick.Statement.{statement}
