@@ -8,6 +8,7 @@ ghost use Rattle.rules.specs.Refusals.{verdict};
 ghost use Rattle.rules.specs.Table.{rowOf, fits?, servedCheck, lengthCheck};
 ghost use Rattle.rules.specs.Module.{callOf, checks, gateChecks, callChecks};
 ghost use Rattle.rules.proofs.Fitting.{Fitting};
+use rules::ANSWER_ROOM;
 use rules::Device;
 use rules::Function;
 use rules::Refusal;
@@ -59,7 +60,7 @@ fn judge_gate(
     requires { ⌜ row ≡ rowOf index ⌝ }
     ensures { λ r. ⌜ r ≡ verdict (gateChecks (moduleOf d (now (area .entry))) revision index (now (request .entry)) (now (answer .entry))) ⌝ }
 {
-    let short = answer.len() < 64;
+    let short = answer.len() < ANSWER_ROOM;
     if short {
         return Verdict::Refused(Refusal::R { number: 1 });
     }

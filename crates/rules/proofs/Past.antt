@@ -40,8 +40,7 @@ pub record EventPassed (m : Module) : Type 0 where
 pub event-passed : (m : Module) (later : List Check) (v : Verdict) → verdict (eventChecks m ++ later) ≡ v → NotBy (eventChecks m) v
     → EventPassed m × (verdict later ≡ v)
 event-passed m later v e n =
-    let q = past-rows (eventChecks m) later v e n in
-    (
+    let q = past-rows (eventChecks m) later v e n in (
       record {
         whole = eqb-true (length (m .area)) areaSize (not-false _ (q .0 .0));
         sound = not-false (possible (m .device)) (q .0 .1 .0);

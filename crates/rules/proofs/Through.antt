@@ -22,7 +22,6 @@ use Rattle.rules.specs.declared.Refusal.the-variants.{R, Status}
 use Rattle.rules.specs.declared.Verdict.{Verdict}
 use Rattle.rules.specs.declared.Verdict.the-variants.{Accepted, Refused}
 use Rattle.rules.specs.declared.Transfer.{Transfer}
-
 use Rattle.rules.proofs.Passed.{by-rows}
 use Rattle.rules.proofs.Split.{partOf, restOf, join, RestCall, Masks, Limits, Locks, Nothing, toCall, act, actOf, unserved?, misfit?, front, answerBy, partAfter, restAfter, restMissed, restChecks, restAnswer, restNext, restPower, answers, nexts, inner, actKind}
 
