@@ -6,8 +6,9 @@ ghost use lib.ListN.{length};
 ghost use Rattle.rules.specs.Numbers.{answerRoom};
 ghost use Rattle.rules.specs.Record.{moduleOf};
 ghost use Rattle.rules.specs.Module.{callResult, tickResult, powerResult};
-ghost use Rattle.device_encode.specs.Encoding.{encodeOf, decodeOf};
+ghost use Rattle.device_encode.specs.Encoding.{encodedSize, encodeOf, decodeOf};
 ghost use Rattle.abi.specs.Abi.{refusal, told, keptBy, Called, Happened, Made, Keepable};
+use device_encode::ENCODED_SIZE;
 use module::Outcome;
 use rules::Device;
 use rules::Refusal;
@@ -28,7 +29,7 @@ fn length(n: usize) -> i32
 
 // Writes the record's bytes, and gives the answer's length.
 fn write(d: Device, bytes: &mut [u8], n: usize) -> i32
-    requires { ⌜ (length (now bytes) ≡ 128) × (n ≤ answerRoom) ⌝ }
+    requires { ⌜ (length (now bytes) ≡ encodedSize) × (n ≤ answerRoom) ⌝ }
     ensures { λ r. ⌜ (r ≡ pos n) × (now (bytes .exit) ≡ encodeOf d) ⌝ }
 {
     device_encode::put(d, bytes);
@@ -61,7 +62,7 @@ fn keep(outcome: Outcome, bytes: &mut [u8]) -> i32
 pub extern "C" fn module_fresh(bytes: &mut [u8]) -> i32
     ensures { λ r. ⌜ Made (now (bytes .entry)) r (now (bytes .exit)) ⌝ }
 {
-    if bytes.len() != 128 {
+    if bytes.len() != ENCODED_SIZE {
         return -3;
     }
     write(module::fresh(), bytes, 0)
