@@ -7,12 +7,8 @@ ghost use Rattle.rules.specs.Record.{moduleOf};
 ghost use Rattle.rules.specs.Refusals.{verdict};
 ghost use Rattle.rules.specs.Table.{rowOf, fits?, servedCheck, lengthCheck};
 ghost use Rattle.rules.specs.Module.{callOf, checks, gateChecks, callChecks};
-<<<<<<< HEAD
 ghost use Rattle.rules.proofs.page.Fitting.{Fitting};
-=======
-ghost use Rattle.rules.proofs.Fitting.{Fitting};
 use rules::ANSWER_ROOM;
->>>>>>> ad02881008e6d7e054a5f418b27fb86a1fdbf2a6
 use rules::Device;
 use rules::Function;
 use rules::Refusal;
