@@ -1,4 +1,4 @@
--- What the C functions promise: the number that they give and every buffer at their end, by equations. The record is bytes (crate store); what a call, a tick
+-- What the C functions promise: the number that they give and every buffer at their end, by equations. The record is bytes (crate device_encode); what a call, a tick
 -- and a power cycle come to is document 01's (crate rules).
 -- Assumes nothing.
 use mathlib.Core.Path.{_≡_}

@@ -1,4 +1,4 @@
-// The device record as 128 bytes: specs/Store.antt has the places. Crate `restore` reads them back.
+// The device record as 128 bytes: specs/Encoding.antt has the places. Crate `device_decode` reads them back.
 // Every byte is written once, in the order of the places, and none is cleared first.
 ghost use mathlib.Core.Path.{_≡_};
 ghost use mathlib.Core.List.{_++_};

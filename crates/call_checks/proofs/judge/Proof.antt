@@ -7,10 +7,8 @@ use Rattle.rules.specs.Refusals.{verdict}
 use Rattle.rules.specs.Table.{rowOf}
 use Rattle.rules.specs.Module.{callOf, checks, gateChecks}
 use Rattle.rules.specs.declared.Row.{Row}
-use Rattle.rules.proofs.page.Fitting.{Fitting}
+use Rattle.rules.proofs.page.Fitting.{Fitting, gate-fits}
 use Rattle.call_checks.proofs.Joined.{stands, decides}
-use Rattle.rules.proofs.page.Fitting.{gate-fits}
-use mathlib.Core.Path.{sym, _∙_}
 use borrow.Author.Needs.{needs}
 use Rattle.call_checks.proofs.judge.Statement.{statement}
 use Rattle.call_checks.proofs.judge.Tie as tie

@@ -27,8 +27,13 @@ change-requires c κs =
     let m = moduleOf (a .d) (a .area .now) in
     let row = c .before .before .before .before .before .before .before .before .before .before .look-up in
     let judged = c .before .before .before .before .before .before .before .judge .ensures in
-    let e = sym judged ∙ c .before .before .before .before .before .enum-told .given .1 in
-    (event-checks m (a .revision) (a .function) (a .request .now) (a .answer .now) (row .result) (row .ensures) Accepted e tt .whole, (fits m (a .revision) (a .function) (a .request .now) (a .answer .now) (row .result) (row .ensures) e, own-checks m (a .revision) (a .function) (a .request .now) (a .answer .now) (row .result) (row .ensures) e))
+    let e = sym judged ∙ c .before .before .before .before .before .enum-told .given .1 in (
+      event-checks m (a .revision) (a .function) (a .request .now) (a .answer .now) (row .result) (row .ensures) Accepted e tt .whole,
+      (
+        fits m (a .revision) (a .function) (a .request .now) (a .answer .now) (row .result) (row .ensures) e,
+        own-checks m (a .revision) (a .function) (a .request .now) (a .answer .now) (row .result) (row .ensures) e,
+      ),
+    )
 
 put-status-requires : tie.Need-put-status-requires
 put-status-requires c κs =
@@ -74,7 +79,9 @@ returns-3 c =
     let m = moduleOf (a .d) (a .area .now) in
     let row = c .before .before .before .before .before .before .before .before .before .before .before .before .before .before .before .before .look-up in
     let judged = c .before .before .before .before .before .before .before .before .before .before .before .before .before .judge .ensures in
-    as-status m (a .revision) (a .function) (a .request .now) (a .answer .now) (row .result) (row .ensures) _ _ _ (sym (c .before .before .before .before .before .before .before .before .before .before .before .verdict .given .1) ∙ judged) (ap Refused (c .before .before .before .before .before .before .before .before .refusal .given .1)) (c .result3 .ensures) (c .before .before .before .before .before .before .status-length .ensures) (c .before .left .ensures)
+    as-status m (a .revision) (a .function) (a .request .now) (a .answer .now) (row .result) (row .ensures) _ _ _
+    (sym (c .before .before .before .before .before .before .before .before .before .before .before .verdict .given .1) ∙ judged) (ap Refused (c .before .before .before .before .before .before .before .before .refusal .given .1))
+    (c .result3 .ensures) (c .before .before .before .before .before .before .status-length .ensures) (c .before .left .ensures)
     (c .before .before .before .before .put-status .ensures)
 
 -- by search: look-up-requires, judge-requires, result-requires, enum-known-verdict, enum-told-2, result-requires-2, enum-known-refusal,
