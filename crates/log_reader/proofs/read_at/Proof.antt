@@ -56,9 +56,9 @@ use Rattle.log_reader.proofs.Step as P
 use Rattle.log_reader.proofs.Step.Laws as P′
 use Rattle.log_reader.proofs.next as callee
 use Rattle.log_reader.proofs.next.Symbol as callee-def
-use Rattle.log_reader.proofs.next.Symbol.{name as #reader·next}
+use Rattle.log_reader.proofs.next.Symbol.{name as #log-reader·next}
 use Rattle.log_reader.proofs.next.Met as callee-thm
-use Rattle.log_reader.proofs.read_at.Key.{name as #reader·read-at}
+use Rattle.log_reader.proofs.read_at.Key.{name as #log-reader·read-at}
 use Rattle.log_reader.proofs.read_at as read
 use Rattle.log_reader.proofs.read_at.Statement as stated
 use Rattle.log_reader.proofs.read_at.Code as code
@@ -160,7 +160,7 @@ module _ {M : Type 1} (𝓤 : URA M) (H : Heap 𝓤) (A : Atoms 𝓤) (W : Given
   told : (t : Step) (u : Val) → Is (P.the-row α) t (u ∷ []) → Is (P.the-row α) t (stepVal t ∷ [])
   told t u is = subst (Is (P.the-row α) t) (LL.tells (P.the-type α) (P′.the-laws α) t (u ∷ []) is) is
 
-  module _ (C : Calls 𝓤 H) (Λ : Loops 𝓤 H) (fm : FmC 𝓤 H (W .laws) C) (known : Triple 𝓤 (C #reader·next) (Next 𝓤 H A mem run)) where
+  module _ (C : Calls 𝓤 H) (Λ : Loops 𝓤 H) (fm : FmC 𝓤 H (W .laws) C) (known : Triple 𝓤 (C #log-reader·next) (Next 𝓤 H A mem run)) where
     walk : Is (ShrSlice (named 0) κ u8) s (v ∷ []) → ent 𝓤 (onEntry 𝓤 H A read.signature (κ, tt) (q, tt) (s, (n, tt)) at) (WpFn 𝓤 H C Λ code.function (v ∷ vint w64 n ∷ []) Post)
     walk p =
         qed W (raw (onEntry 𝓤 H A read.signature (κ, tt) (q, tt) (s, (n, tt)) at) ∷ []) ∵ enter ! C Λ code.function (v ∷ vint w64 n ∷ []) _ $
@@ -183,13 +183,13 @@ module _ {M : Type 1} (𝓤 : URA M) (H : Heap 𝓤) (A : Atoms 𝓤) (W : Given
         keep ! (1 ∷ 2 ∷ []) $ by ! (exits t (told t u is) e))))))))))))
 
 module _ {M : Type 1} (𝓤 : URA M) (H : Heap 𝓤) (A : Atoms 𝓤) (W : Given 𝓤 H A) (mem : Memory → SProp 𝓤) (run : Routine → Fun 𝓤) where
-  read-walks : (C : Calls 𝓤 H) (Λ : Loops 𝓤 H) → FmC 𝓤 H (W .laws) C → Triple 𝓤 (C #reader·next) (Next 𝓤 H A mem run)
+  read-walks : (C : Calls 𝓤 H) (Λ : Loops 𝓤 H) → FmC 𝓤 H (W .laws) C → Triple 𝓤 (C #log-reader·next) (Next 𝓤 H A mem run)
       → Walks 𝓤 H A read.ended stayed (WpFn 𝓤 H C Λ code.function) (read.clauses 𝓤 H A mem run)
   read-walks C Λ fm known = walked 𝓤 H A read.ended stayed (read.clauses 𝓤 H A mem run) (WpFn 𝓤 H C Λ code.function) (λ κs. (slice-vals, (uint-vals w64, tt))) (λ κs. (shr-slice-tells (named 0) (κs .0) u8, (uint-tells w64, tt)))
       (λ κs qs bounds a g are. via 𝓤 _ (fst∗ 𝓤 _ (emp 𝓤)) (walk 𝓤 H A W mem run (κs .0) (qs .0) (a .0) (a .1 .0) (are .1 .0 .1) C Λ fm known (are .0)))
 
 read-meets : {M : Type 1} (𝓤 : URA M) (H : Heap 𝓤) (A : Atoms 𝓤) (W : Given 𝓤 H A) (mem : Memory → SProp 𝓤) (run : Routine → Fun 𝓤) (𝓣 : Tables 𝓤 H)
-    → Triple 𝓤 (𝓣 .C #reader·next) (Next 𝓤 H A mem run)
+    → Triple 𝓤 (𝓣 .C #log-reader·next) (Next 𝓤 H A mem run)
     → Meets 𝓤 H A read.signature (WpFn 𝓤 H (𝓣 .C) (𝓣 .Λ) code.function) (read.spec 𝓤 H A mem run)
 read-meets 𝓤 H A W mem run 𝓣 known = walk-meets 𝓤 H A read.ended stayed W (goes-none-slice 𝓤 H A W 1 (0 ∷ []) tt (plain (λ _. u8)) yes, (goes-none 𝓤 H A W 1 (λ _. usize) yes (λ κs x f. refl), tt)) (read.clauses 𝓤 H A mem run) (WpFn 𝓤 H (𝓣 .C) (𝓣 .Λ) code.function) (WpFn-mono 𝓤 H (W .laws) 𝓣 code.function)
     (read-walks 𝓤 H A W mem run (𝓣 .C) (𝓣 .Λ) (fmOf 𝓤 H (W .laws) 𝓣) known)
@@ -198,6 +198,6 @@ pub read-at-spec : {M : Type 1} → stated.statement M
 unfolding code.routine tablesOf
 read-at-spec 𝓤 H 𝓜 𝓖 𝓡 =
     entered 𝓤 H (tripleOf 𝓤 H (𝓖 .A) read.signature (read.spec 𝓤 H (𝓖 .A) (𝓜 .mem) (𝓡 .run)))
-    (tables 𝓤 H 𝓜 𝓡 code.env .C) (tables 𝓤 H 𝓜 𝓡 code.env .Λ) #reader·read-at code.function (code.unfolded 𝓤 H 𝓜 𝓡)
+    (tables 𝓤 H 𝓜 𝓡 code.env .C) (tables 𝓤 H 𝓜 𝓡 code.env .Λ) #log-reader·read-at code.function (code.unfolded 𝓤 H 𝓜 𝓡)
     (read-meets 𝓤 H (𝓖 .A) (givenOf 𝓤 H 𝓜 𝓖) (𝓜 .mem) (𝓡 .run) (tablesOf 𝓤 H 𝓜 (tables 𝓤 H 𝓜 𝓡 code.env))
-    (cited 𝓤 H (Next 𝓤 H (𝓖 .A) (𝓜 .mem) (𝓡 .run)) 𝓜 𝓡 code.env #reader·next callee-def.routine code.calls-reader·next (callee-thm.met 𝓤 H 𝓜 𝓖 𝓡)))
+    (cited 𝓤 H (Next 𝓤 H (𝓖 .A) (𝓜 .mem) (𝓡 .run)) 𝓜 𝓡 code.env #log-reader·next callee-def.routine code.calls-log-reader·next (callee-thm.met 𝓤 H 𝓜 𝓖 𝓡)))

@@ -57,7 +57,7 @@ use Rattle.module.proofs.tick as callee
 use Rattle.module.proofs.tick.Symbol as callee-def
 use Rattle.module.proofs.tick.Symbol.{name as #module·tick}
 use Rattle.module.proofs.tick.Met as callee-thm
-use Rattle.module_clock.proofs.tick_in_place.Key.{name as #clock·tick-in-place}
+use Rattle.module_clock.proofs.tick_in_place.Key.{name as #module-clock·tick-in-place}
 use Rattle.module_clock.proofs.tick_in_place as placed
 use Rattle.module_clock.proofs.tick_in_place.Statement as stated
 use Rattle.module_clock.proofs.tick_in_place.Code as code
@@ -182,6 +182,6 @@ pub tick-in-place-spec : {M : Type 1} → stated.statement M
 unfolding code.routine tablesOf
 tick-in-place-spec 𝓤 H 𝓜 𝓖 𝓡 =
     entered 𝓤 H (tripleOf 𝓤 H (𝓖 .A) placed.signature (placed.spec 𝓤 H (𝓖 .A) (𝓜 .mem) (𝓡 .run)))
-    (tables 𝓤 H 𝓜 𝓡 code.env .C) (tables 𝓤 H 𝓜 𝓡 code.env .Λ) #clock·tick-in-place code.function (code.unfolded 𝓤 H 𝓜 𝓡)
+    (tables 𝓤 H 𝓜 𝓡 code.env .C) (tables 𝓤 H 𝓜 𝓡 code.env .Λ) #module-clock·tick-in-place code.function (code.unfolded 𝓤 H 𝓜 𝓡)
     (placed-meets 𝓤 H (𝓖 .A) (givenOf 𝓤 H 𝓜 𝓖) (𝓜 .mem) (𝓡 .run) (tablesOf 𝓤 H 𝓜 (tables 𝓤 H 𝓜 𝓡 code.env))
     (cited 𝓤 H (Tick 𝓤 H (𝓖 .A) (𝓜 .mem) (𝓡 .run)) 𝓜 𝓡 code.env #module·tick callee-def.routine code.calls-module·tick (callee-thm.met 𝓤 H 𝓜 𝓖 𝓡)))

@@ -57,9 +57,9 @@ use Rattle.module.proofs.Outcome.Laws as R′
 use Rattle.module_clock.specs.InPlace.{TickedInPlace}
 use Rattle.module_clock.proofs.tick_in_place as callee
 use Rattle.module_clock.proofs.tick_in_place.Symbol as callee-def
-use Rattle.module_clock.proofs.tick_in_place.Symbol.{name as #clock·tick-in-place}
+use Rattle.module_clock.proofs.tick_in_place.Symbol.{name as #module-clock·tick-in-place}
 use Rattle.module_clock.proofs.tick_in_place.Met as callee-thm
-use Rattle.program_walks.proofs.tick_mine.Key.{name as #walks·tick-mine}
+use Rattle.program_walks.proofs.tick_mine.Key.{name as #program-walks·tick-mine}
 use Rattle.program_walks.proofs.tick_mine as mine
 use Rattle.program_walks.proofs.tick_mine.Statement as stated
 use Rattle.program_walks.proofs.tick_mine.Code as code
@@ -157,7 +157,7 @@ module _ {M : Type 1} (𝓤 : URA M) (H : Heap 𝓤) (A : Atoms 𝓤) (W : Given
         owned ! R.the-row (Is R.the-row) (LL.makes R.the-type R′.the-plain 𝓤 H A) (out r w) _ is-out $
         nothing ! $ move ! (2 ∷ 0 ∷ []) $ fjoin ! $ owned ! T.the-row (Is T.the-row) (LL.makes T.the-type T′.the-plain 𝓤 H A) h _ is $ fjoin ! $ frame ! $ done !
 
-  module _ (C : Calls 𝓤 H) (Λ : Loops 𝓤 H) (fm : FmC 𝓤 H (W .laws) C) (known : Triple 𝓤 (C #clock·tick-in-place) (InPlace 𝓤 H A at-mem run)) where
+  module _ (C : Calls 𝓤 H) (Λ : Loops 𝓤 H) (fm : FmC 𝓤 H (W .laws) C) (known : Triple 𝓤 (C #module-clock·tick-in-place) (InPlace 𝓤 H A at-mem run)) where
     walk : Is T.the-row h (vals h) → Is (ShrSlice (named 0) κ u8) s (v ∷ []) → ent 𝓤 (onEntry 𝓤 H A mine.signature (κ, tt) (q, tt) (h, (s, tt)) at) (WpFn 𝓤 H C Λ code.function (val h ∷ v ∷ []) Post)
     walk ish p =
         qed W ((‵ (flft κ q) ⊛ ‵ ftrue) ∷ ‵ (owns (T.the-row ∷ ShrSlice (named 0) κ u8 ∷ []) (h, (s, tt)) at) ∷ []) ∵ move ! (1 ∷ []) $ fsplit ! $ drop ! $ fsplit ! $ move ! (1 ∷ []) $ drop ! $
@@ -196,7 +196,7 @@ module _ {M : Type 1} (𝓤 : URA M) (H : Heap 𝓤) (A : Atoms 𝓤) (W : Given
         keep ! (1 ∷ 4 ∷ []) $ by ! (exits r (ws .0) (told r u isr) isw ish e))))))))))))))))
 
 module _ {M : Type 1} (𝓤 : URA M) (H : Heap 𝓤) (A : Atoms 𝓤) (W : Given 𝓤 H A) (at-mem : Memory → SProp 𝓤) (run : Routine → Fun 𝓤) where
-  mine-walks : (C : Calls 𝓤 H) (Λ : Loops 𝓤 H) → FmC 𝓤 H (W .laws) C → Triple 𝓤 (C #clock·tick-in-place) (InPlace 𝓤 H A at-mem run)
+  mine-walks : (C : Calls 𝓤 H) (Λ : Loops 𝓤 H) → FmC 𝓤 H (W .laws) C → Triple 𝓤 (C #module-clock·tick-in-place) (InPlace 𝓤 H A at-mem run)
       → Walks 𝓤 H A mine.ended stayed (WpFn 𝓤 H C Λ code.function) (mine.clauses 𝓤 H A at-mem run)
   mine-walks C Λ fm known = walked 𝓤 H A mine.ended stayed (mine.clauses 𝓤 H A at-mem run) (WpFn 𝓤 H C Λ code.function) (λ κs. (vals, (slice-vals, tt))) (λ κs. (LL.tells T.the-type T′.the-laws, (shr-slice-tells (named 0) (κs .0) u8, tt)))
       (λ κs qs bounds a g are. via 𝓤 _ (fst∗ 𝓤 _ (emp 𝓤)) (walk 𝓤 H A W at-mem run (κs .0) (qs .0) (a .0) (a .1 .0) C Λ fm known (are .0) (are .1 .0)))
@@ -205,7 +205,7 @@ module _ {M : Type 1} (𝓤 : URA M) (H : Heap 𝓤) (A : Atoms 𝓤) (W : Given
   goes = (goes-none 𝓤 H A W 1 (λ _. T.the-row) yes (λ κs x f. refl), (goes-none-slice 𝓤 H A W 1 (0 ∷ []) tt (plain (λ _. u8)) yes, tt))
 
 mine-meets : {M : Type 1} (𝓤 : URA M) (H : Heap 𝓤) (A : Atoms 𝓤) (W : Given 𝓤 H A) (at-mem : Memory → SProp 𝓤) (run : Routine → Fun 𝓤) (𝓣 : Tables 𝓤 H)
-    → Triple 𝓤 (𝓣 .C #clock·tick-in-place) (InPlace 𝓤 H A at-mem run)
+    → Triple 𝓤 (𝓣 .C #module-clock·tick-in-place) (InPlace 𝓤 H A at-mem run)
     → Meets 𝓤 H A mine.signature (WpFn 𝓤 H (𝓣 .C) (𝓣 .Λ) code.function) (mine.spec 𝓤 H A at-mem run)
 mine-meets 𝓤 H A W at-mem run 𝓣 known = walk-meets 𝓤 H A mine.ended stayed W (goes 𝓤 H A W at-mem run) (mine.clauses 𝓤 H A at-mem run) (WpFn 𝓤 H (𝓣 .C) (𝓣 .Λ) code.function) (WpFn-mono 𝓤 H (W .laws) 𝓣 code.function)
     (mine-walks 𝓤 H A W at-mem run (𝓣 .C) (𝓣 .Λ) (fmOf 𝓤 H (W .laws) 𝓣) known)
@@ -214,6 +214,6 @@ pub tick-mine-spec : {M : Type 1} → stated.statement M
 unfolding code.routine tablesOf
 tick-mine-spec 𝓤 H 𝓜 𝓖 𝓡 =
     entered 𝓤 H (tripleOf 𝓤 H (𝓖 .A) mine.signature (mine.spec 𝓤 H (𝓖 .A) (𝓜 .mem) (𝓡 .run)))
-    (tables 𝓤 H 𝓜 𝓡 code.env .C) (tables 𝓤 H 𝓜 𝓡 code.env .Λ) #walks·tick-mine code.function (code.unfolded 𝓤 H 𝓜 𝓡)
+    (tables 𝓤 H 𝓜 𝓡 code.env .C) (tables 𝓤 H 𝓜 𝓡 code.env .Λ) #program-walks·tick-mine code.function (code.unfolded 𝓤 H 𝓜 𝓡)
     (mine-meets 𝓤 H (𝓖 .A) (givenOf 𝓤 H 𝓜 𝓖) (𝓜 .mem) (𝓡 .run) (tablesOf 𝓤 H 𝓜 (tables 𝓤 H 𝓜 𝓡 code.env))
-    (cited 𝓤 H (InPlace 𝓤 H (𝓖 .A) (𝓜 .mem) (𝓡 .run)) 𝓜 𝓡 code.env #clock·tick-in-place callee-def.routine code.calls-clock·tick-in-place (callee-thm.met 𝓤 H 𝓜 𝓖 𝓡)))
+    (cited 𝓤 H (InPlace 𝓤 H (𝓖 .A) (𝓜 .mem) (𝓡 .run)) 𝓜 𝓡 code.env #module-clock·tick-in-place callee-def.routine code.calls-module-clock·tick-in-place (callee-thm.met 𝓤 H 𝓜 𝓖 𝓡)))
