@@ -1,11 +1,11 @@
--- `answers_lines::put_hex` meets its contract. Each byte takes two places, and the buffer keeps its length.
+-- `answers_hex::put_hex` meets its contract. Each byte takes two places, and the buffer keeps its length.
 -- Assumes nothing.
 use mathlib.Core.Path.{_≡_}
 use Prim.Native.Nat.{_+_, _*_, _≤_, _-_}
 use lib.ListN.{length}
 use borrow.Author.Needs.{needs}
-use Rattle.answers_lines.proofs.put_hex.Statement.{statement}
-use Rattle.answers_lines.proofs.put_hex.Tie as tie
+use Rattle.answers_hex.proofs.put_hex.Statement.{statement}
+use Rattle.answers_hex.proofs.put_hex.Tie as tie
 
 abbrev Inv-loop : tie.InvT-loop
 Inv-loop out₀ at bytes count to₀ i₀ out to i = (count ≤ length bytes) × (i ≤ count) × (to ≡ at + 2 * i) × (length out ≡ length out₀)
