@@ -1,9 +1,9 @@
--- `image_check::good_record` meets its contract: its four comparisons are those of the definition, in its order, and a bad field decides.
+-- `image_record::good_record` meets its contract: its four comparisons are those of the definition, in its order, and a bad field decides.
 use borrow.Author.Needs.{needs}
 use borrow.Author.Tests.{not-true, not-false}
-use Rattle.image_check.proofs.Laws.{bad-field-decides, sum-decides}
-use Rattle.image_check.proofs.good_record.Statement.{statement}
-use Rattle.image_check.proofs.good_record.Tie as tie
+use Rattle.image_record.proofs.Laws.{bad-field-decides, sum-decides}
+use Rattle.image_record.proofs.good_record.Statement.{statement}
+use Rattle.image_record.proofs.good_record.Tie as tie
 
 returns : tie.Need-returns
 returns c =

@@ -1,12 +1,12 @@
--- `image_check::sum` meets its contract: past each word the sum is that of the words so far, wrapped.
+-- `image_record::sum` meets its contract: past each word the sum is that of the words so far, wrapped.
 use Prim.Native.Nat.{_≤_, _-_, _%_, _^_}
 use mathlib.Core.Path.{_≡_}
 use native.Mathlib.Omega.{arith}
 use borrow.Author.Needs.{needs}
 use Rattle.rules.specs.Image.{sumOfWords}
-use Rattle.image_check.proofs.Laws.{wrapping-sum-of-one-more}
-use Rattle.image_check.proofs.sum.Statement.{statement}
-use Rattle.image_check.proofs.sum.Tie as tie
+use Rattle.image_record.proofs.Laws.{wrapping-sum-of-one-more}
+use Rattle.image_record.proofs.sum.Statement.{statement}
+use Rattle.image_record.proofs.sum.Tie as tie
 
 abbrev Inv-loop : tie.InvT-loop
 Inv-loop bytes sum₀ word₀ sum word = (word ≤ 31) × (sum ≡ sumOfWords word bytes % 2 ^ 32)
