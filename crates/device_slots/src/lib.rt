@@ -12,7 +12,7 @@ fn are_slots(slots: &[u8]) -> bool
     slots[0] <= 1
 }
 
-// The selector is written last: on memory that was never written it is neither of its values until all is there.
+// Once in a module's life, before anyone calls it: this write has no other slot to fall back on.
 pub fn fresh(slots: &mut [u8]) -> i32
     ensures { λ r. ⌜ r ≡ freshNumber (now (slots .entry)) ⌝ }
     ensures { λ r. ⌜ now (slots .exit) ≡ freshSlots (now (slots .entry)) ⌝ }
