@@ -182,8 +182,9 @@ int32_t module_power(uint8_t *record, size_t record_len, const uint8_t *area, si
  * power goes before that is done, do it again; later, never.
  *
  * Each time that power comes back:
- *   1. slots_read into a record in ordinary memory. MODULE_REFUSED: these are no slots, and the module stays off.
- *   2. module_power on that record.
+ *   1. slots_read into a record in ordinary memory.
+ *   2. module_power on that record. A number below 0, here or from slots_read: these bytes were not kept so, and the module
+ *      stays off.
  *   3. Keep the record, as below. Then the first call may come.
  *
  * A call:

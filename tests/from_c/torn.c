@@ -7,16 +7,16 @@
  * other memory is lost, the record is read from its slots, and whole updates follow, cut once more on the way. No context may
  * be answered twice, and no record be read but the one before the event that power cut or the one after it.
  *
- * Three wrong ways to keep a record are cut in the same way, and each must be found out: else the cuts would show nothing. */
+ * Four wrong ways to keep a record are cut in the same way, and each must be found out: else the cuts would show nothing. */
 #include <stdio.h>
 #include <string.h>
 
 #include "../../include/module.h"
 #include "../independent/bytes.h"
 
-enum way { AS_THE_HEADER_SAYS, ONE_COPY, SELECTED_BEFORE_FLUSHED, ANSWERED_BEFORE_KEPT, WAYS };
+enum way { AS_THE_HEADER_SAYS, ONE_COPY, SELECTED_BEFORE_FLUSHED, SELECTOR_NOT_FLUSHED, ANSWERED_BEFORE_KEPT, WAYS };
 static const char *const way_names[] = {"as module.h says", "one copy and no slots", "the slot selected before it is flushed",
-                                        "the host answered before the record is kept"};
+                                        "the selector not flushed", "the host answered before the record is kept"};
 
 enum order { UP, DOWN, MIXED, ORDERS };
 
@@ -90,7 +90,9 @@ static bool keep_in_slots(void)
         return false;
     if (slots_select(slots, sizeof slots, (uint64_t)slot) != 0)
         return stop();
-    return flush(0, 1) && (way != SELECTED_BEFORE_FLUSHED || flush(at, MODULE_RECORD_SIZE));
+    if (way != SELECTOR_NOT_FLUSHED && !flush(0, 1))
+        return false;
+    return way != SELECTED_BEFORE_FLUSHED || flush(at, MODULE_RECORD_SIZE);
 }
 
 /* False where power went on the way. */
@@ -280,7 +282,7 @@ static bool cut_at(uint32_t cut)
     return true;
 }
 
-/* Every cut, in each order. False where something was refused or told that must not be, but for what comes of a mixture. */
+/* Every cut, in each order. False where something was refused or told that must not be, before any mixture could be why. */
 static bool cut_all(void)
 {
     cuts = read_old = read_new = mixtures = twice = 0;
@@ -297,9 +299,8 @@ static bool as_it_must_be(void)
 {
     switch (way) {
     case AS_THE_HEADER_SAYS: return mixtures == 0 && twice == 0;
-    case ONE_COPY: return mixtures > 0 && twice > 0;
-    case SELECTED_BEFORE_FLUSHED: return mixtures > 0;
-    default: return mixtures == 0 && twice > 0;
+    case ANSWERED_BEFORE_KEPT: return mixtures == 0 && twice > 0;
+    default: return mixtures > 0 && twice > 0;
     }
 }
 
