@@ -1,4 +1,5 @@
-/* Two hosts, one module: the bench updates the module's firmware while a laptop tries to do the same, and is refused.
+/* Two hosts, one module: the bench updates the module's firmware while a laptop tries to do the same, and is refused. The
+ * record is kept in its slots at every step, as module.h says under "Power loss".
  * examples/build says how to build it; examples/two_hosts.expected is what it prints. */
 #include <stdio.h>
 #include <string.h>
@@ -7,7 +8,10 @@
 
 enum { IMAGE_RECORDS = 10, IMAGE_RECORD = 128, IMAGE_SIZE = IMAGE_RECORDS * IMAGE_RECORD, VERSION = 7 };
 
-/* The module, in our own memory: record and area. The answer buffer is lent to each call. */
+/* What outlives power. */
+static uint8_t slots[MODULE_SLOTS_SIZE];
+
+/* What does not: the record that the functions work on, the area, and the answer buffer that is lent to each call. */
 static uint8_t record[MODULE_RECORD_SIZE];
 static uint8_t area[MODULE_AREA_SIZE];
 static uint8_t answer[MODULE_ANSWER_LEAST];
@@ -29,6 +33,47 @@ static uint64_t get(const uint8_t *at, int width)
     return number;
 }
 
+/* Stands for the platform's own flush, which returns when these bytes are in memory for good. Here there is nothing to do. */
+static void flush(const uint8_t *at, size_t length)
+{
+    (void)at;
+    (void)length;
+}
+
+/* Keeps the record: the slot, and only then the selector, and only then whatever the caller does next. 1 where it is kept. */
+static int keep(void)
+{
+    int32_t slot = slots_write(slots, sizeof slots, record, sizeof record);
+
+    if (slot < 0)
+        return 0;
+    flush(slots + 1 + slot * MODULE_RECORD_SIZE, MODULE_RECORD_SIZE);
+    if (slots_select(slots, sizeof slots, (uint64_t)slot) != 0)
+        return 0;
+    flush(slots, 1);
+    return 1;
+}
+
+/* A new module, once in its life. */
+static int make(void)
+{
+    if (slots_fresh(slots, sizeof slots) != 0)
+        return 0;
+    flush(slots, sizeof slots);
+    return 1;
+}
+
+/* Power comes back, to whatever ordinary memory holds by then. */
+static int power_up(void)
+{
+    memset(record, 0xEE, sizeof record);
+    memset(area, 0xEE, sizeof area);
+    return slots_read(slots, sizeof slots, record, sizeof record) == 0
+        && module_power(record, sizeof record, area, sizeof area) == 0 && keep();
+}
+
+static int tick(void) { return module_tick(record, sizeof record, area, sizeof area) == 0 && keep(); }
+
 /* One call, with a line that says who called what and what came of it. 1 where the call was accepted. */
 static int call(const char *host, const char *name, uint64_t function, const uint8_t *request, size_t length)
 {
@@ -38,6 +83,10 @@ static int call(const char *host, const char *name, uint64_t function, const uin
     printf("%-7s %-12s ", host, name);
     if (given < 0) {
         printf("gives R%d: nothing was written\n", (int)-given);
+        return 0;
+    }
+    if (!keep()) { /* and before that no host learns what came of it */
+        printf("cannot be kept\n");
         return 0;
     }
     if (function == MODULE_MASK) { /* the one answer without a status */
@@ -130,8 +179,8 @@ int main(void)
     uint32_t context = 0, other = 0;
 
     make_image(image);
-    /* This module is new at each start of the program. Yours is made once in its life; when it comes up again, module_power. */
-    if (module_fresh(record, sizeof record) != 0)
+    /* This module is new at each start of the program. Yours is made once in its life; after that it only comes up again. */
+    if (!make() || !power_up())
         return 1;
     show_versions();
 
@@ -144,8 +193,8 @@ int main(void)
     start("laptop", &other);
 
     query("bench", context);
-    for (int tick = 0; tick < 8; tick++)
-        if (module_tick(record, sizeof record, area, sizeof area) != 0)
+    for (int i = 0; i < 8; i++)
+        if (!tick())
             return 1;
     printf("        8 ticks\n");
     if (!query("bench", context))
@@ -153,9 +202,9 @@ int main(void)
     printf("        staged version %u\n", (unsigned)get(answer + 4, 8));
     start("laptop", &other);
 
-    if (module_power(record, sizeof record, area, sizeof area) != 0)
+    if (!power_up())
         return 1;
-    printf("        power cycle\n");
+    printf("        power cycle: all but the slots was lost\n");
     show_versions();
     return 0;
 }

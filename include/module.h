@@ -6,16 +6,16 @@
  *
  * For every function:
  *  - Any bytes of any length get an answer. Nothing is asked of a buffer but that it has the bytes that its length says.
- *  - No pointer is NULL. A buffer of length 0 may point anywhere (so may an empty request), but not to NULL.
+ *  - No pointer is NULL, not with length 0 either: a buffer of length 0, such as an empty request, may point anywhere else.
  *  - A buffer that a function writes overlaps no other buffer of the same call. Those that are only read may overlap.
- *  - No two calls at one time on the same record or the same area.
- *  - An R number (below 0) has written nothing at all.
- *  - A record is written byte after byte, not at once. Where power may go at any moment, work on a copy in ordinary memory
- *    and put it in the record's place when the function has returned; for an area that outlives power, the area likewise.
+ *  - No two calls at one time on the same record, the same area or the same slots.
+ *  - A number below 0 has written nothing at all.
+ *  - A record is written byte after byte, not at once, and so is any copy of it. Where power may go at any moment, the
+ *    record that the functions work on is in ordinary memory, and is kept in two slots: "Power loss", below.
  *
- * Record and area live as long as the module does, through every power cycle: module_fresh is for a new module, once in its
- * life, and module_power for each time that power comes back. A module made fresh again would give out its contexts from 1
- * again, and a late piece of one transfer could land in another's. The area may begin with any bytes.
+ * The record lives as long as the module does, through every power cycle: module_fresh or slots_fresh is for a new module,
+ * once in its life, and module_power for each time that power comes back. A module made fresh again would give out its
+ * contexts from 1 again, and a late piece of one transfer could land in another's. The area may begin with any bytes.
  *
  * The library calls memcpy and memset, and nothing else.
  */
@@ -37,6 +37,7 @@ extern "C" {
 #define MODULE_PIECE_MOST 512    /* the longest piece of one Send */
 #define MODULE_SEND_HEAD 12      /* what stands before the piece: context, offset, length, 4 bytes each */
 #define MODULE_PASSPHRASE_SIZE 32
+#define MODULE_SLOTS_SIZE 257    /* the selector, and two slots for the record */
 
 /* The R numbers, in the order in which they are looked for. */
 #define MODULE_R1 (-1) /* the answer buffer is shorter than MODULE_ANSWER_LEAST */
@@ -101,6 +102,10 @@ extern "C" {
  *
  * A request has exactly these bytes, but for MODULE_MASK's. Where no answer is named it is the status and the extended number. */
 
+/* The version of the record's layout, for the caller to keep beside a record that outlives this library: the record's bytes
+ * do not say it. Where a field joins the record it is another number. */
+#define MODULE_RECORD_LAYOUT 1
+
 /* The device record, little-endian:
  *
  *   0       phase: 0 Idle, 1 Receiving, 2 Verifying, 3 Staged, 4 Failed
@@ -158,6 +163,78 @@ int32_t module_tick(uint8_t *record, size_t record_len, const uint8_t *area, siz
  * Writes:  record.
  * Answers: 0; MODULE_R2 or MODULE_R3. */
 int32_t module_power(uint8_t *record, size_t record_len, const uint8_t *area, size_t area_len);
+
+/* ---- Power loss ----
+ *
+ * 128 bytes do not reach memory at once, so that a record put in another's place can be a mixture of the two, with a context
+ * in it that was given before. So the record is kept in two slots, and a selector says which one holds it:
+ *
+ *   0        the selector: 0 or 1
+ *   1-128    slot 0
+ *   129-256  slot 1
+ *
+ * A write goes to the slot that is not selected, and selecting it is one byte. Whatever part of a write reached memory, in
+ * whatever order, slots_read gives the old record; before the selector's byte is there it gives the old one, after it the
+ * new one. That is proved (crates/device_slots). What the memory does is the caller's: it holds the slots at a fixed place,
+ * writes single bytes, each whole, and has a flush that returns when given bytes are there for good.
+ *
+ * A new module, once in its life: slots_fresh, then flush all MODULE_SLOTS_SIZE bytes, before any host can call it. Where
+ * power goes before that is done, do it again; later, never.
+ *
+ * Each time that power comes back:
+ *   1. slots_read into a record in ordinary memory.
+ *   2. module_power on that record. A number below 0, here or from slots_read: these bytes were not kept so, and the module
+ *      stays off.
+ *   3. Keep the record, as below. Then the first call may come.
+ *
+ * A call:
+ *   1. module_call on the record in ordinary memory. The answer stays in its buffer for now.
+ *   2. Keep the record:
+ *      a. slots_write, which gives the number of the slot that it wrote.
+ *      b. Flush that slot. Without it the selector could be in memory before the slot is, and a mixture be read.
+ *      c. slots_select, with that number.
+ *      d. Flush the selector: before the host gets its answer, or a context that was answered could be given again; and
+ *         before the next slots_write, or that would write the slot which in memory is still the selected one.
+ *   3. Give the host its answer.
+ * A tick: module_tick, then keep the record. Where a function has left every byte of the record as it was, there is nothing
+ * to keep.
+ *
+ * The area may tear, or be lost with ordinary memory, and needs no flush: after a power cycle the module is Idle with no
+ * bytes received, and nothing of the area is read before it has been sent again. A staged version is a number in the record.
+ *
+ * examples/two_hosts.c does all of it. */
+
+#define MODULE_REFUSED (-1) /* what the four functions below answer where they did nothing */
+
+/* A new module's slots: slot 0 is selected and holds what module_fresh makes, slot 1 is zeros. Once in a module's life.
+ *
+ * Reads:   the length of the slots; none of their bytes.
+ * Writes:  all of the slots.
+ * Answers: 0; MODULE_REFUSED where slots_len is not MODULE_SLOTS_SIZE. */
+int32_t slots_fresh(uint8_t *slots, size_t slots_len);
+
+/* Puts a record's bytes, whatever they are, into the slot that is not selected.
+ *
+ * Reads:   the selector, record.
+ * Writes:  the slot that is not selected; neither the selector nor the other slot.
+ * Answers: the number of the slot written, 0 or 1; MODULE_REFUSED where slots_len is not MODULE_SLOTS_SIZE, record_len not
+ *          MODULE_RECORD_SIZE, or the selector neither 0 nor 1. */
+int32_t slots_write(uint8_t *slots, size_t slots_len, const uint8_t *record, size_t record_len);
+
+/* Selects a slot. The same again changes nothing.
+ *
+ * Reads:   the selector.
+ * Writes:  the selector.
+ * Answers: 0; MODULE_REFUSED where slots_len is not MODULE_SLOTS_SIZE, slot is over 1, or the selector neither 0 nor 1. */
+int32_t slots_select(uint8_t *slots, size_t slots_len, uint64_t slot);
+
+/* Gives the bytes of the selected slot.
+ *
+ * Reads:   the selector, the selected slot.
+ * Writes:  all of record.
+ * Answers: 0; MODULE_REFUSED where slots_len is not MODULE_SLOTS_SIZE, record_len not MODULE_RECORD_SIZE, or the selector
+ *          neither 0 nor 1. */
+int32_t slots_read(const uint8_t *slots, size_t slots_len, uint8_t *record, size_t record_len);
 
 #ifdef __cplusplus
 }

@@ -2,16 +2,17 @@
  *
  *     count WHAT SIDE TIMES
  *
- * WHAT is send (a Send of 512 bytes), info (a Get FW Info) or tick (the tick that verifies an image of 16,384 bytes); SIDE is
- * library, independent, or none, which makes no call: what is left is the work around the calls. */
+ * WHAT is send (a Send of 512 bytes), info (a Get FW Info), tick (the tick that verifies an image of 16,384 bytes), keep (the
+ * record written to its slot, and that selected) or read (the record read from its slot); SIDE is library, independent, or
+ * none, which makes no call: what is left is the work around the calls. */
 #include <stdlib.h>
 #include <string.h>
 
 #include "../../include/module.h"
-#include "../independent/record.h"
+#include "../independent/slots.h"
 
 static uint8_t before[MODULE_RECORD_SIZE], record[MODULE_RECORD_SIZE], area[MODULE_AREA_SIZE];
-static uint8_t request[MODULE_SEND_HEAD + MODULE_PIECE_MOST], answer[MODULE_ANSWER_LEAST];
+static uint8_t request[MODULE_SEND_HEAD + MODULE_PIECE_MOST], answer[MODULE_ANSWER_LEAST], slots[MODULE_SLOTS_SIZE];
 
 static void make_image(void)
 {
@@ -75,6 +76,23 @@ static int32_t library_tick(void) { return module_tick(record, sizeof record, ar
 static int32_t independent_ticked(void) { return independent_tick(record, sizeof record, area, sizeof area); }
 static int32_t none(void) { return 0; }
 
+static int32_t library_keep(void)
+{
+    int32_t slot = slots_write(slots, sizeof slots, record, sizeof record);
+
+    return slots_select(slots, sizeof slots, (uint64_t)slot);
+}
+
+static int32_t independent_keep(void)
+{
+    int32_t slot = independent_slots_write(slots, sizeof slots, record, sizeof record);
+
+    return independent_slots_select(slots, sizeof slots, (uint64_t)slot);
+}
+
+static int32_t library_read(void) { return slots_read(slots, sizeof slots, record, sizeof record); }
+static int32_t independent_read(void) { return independent_slots_read(slots, sizeof slots, record, sizeof record); }
+
 static const struct work {
     const char *what, *side;
     int32_t (*make)(void);
@@ -82,6 +100,8 @@ static const struct work {
     {"send", "library", library_send}, {"send", "independent", independent_send},  {"send", "none", none},
     {"info", "library", library_info}, {"info", "independent", independent_info},  {"info", "none", none},
     {"tick", "library", library_tick}, {"tick", "independent", independent_ticked}, {"tick", "none", none},
+    {"keep", "library", library_keep}, {"keep", "independent", independent_keep},  {"keep", "none", none},
+    {"read", "library", library_read}, {"read", "independent", independent_read},  {"read", "none", none},
 };
 
 static bool accepted(const struct work *work)

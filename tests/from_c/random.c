@@ -2,15 +2,15 @@
  *
  *     random SEED COUNT
  *
- * Each turn takes a record, an area, a request and an answer buffer, gives both sides their own copies of the same bytes, and
- * compares what they answer and every byte afterwards, guards included. The first difference is printed, and the exit
- * status is then 1; so it is where a run of LONG turns or more never reached what such a run must. */
+ * Each turn takes a record, an area, a request, an answer buffer and slots, gives both sides their own copies of the same
+ * bytes, and compares what they answer and every byte afterwards, guards included. The first difference is printed, and the
+ * exit status is then 1; so it is where a run of LONG turns or more never reached what such a run must. */
 #include <stdio.h>
 #include <stdlib.h>
 #include <string.h>
 
 #include "../../include/module.h"
-#include "../independent/record.h"
+#include "../independent/slots.h"
 
 /* ---- Random numbers ---- */
 
@@ -47,8 +47,9 @@ struct buffer {
 };
 
 static struct buffer record = {.name = "record"}, area = {.name = "area"}, request = {.name = "request"},
-                     answer = {.name = "answer"};
-static struct buffer *const buffers[] = {&record, &area, &request, &answer};
+                     answer = {.name = "answer"}, slots = {.name = "slots"};
+static struct buffer *const buffers[] = {&record, &area, &request, &answer, &slots};
+enum { BUFFERS = sizeof buffers / sizeof *buffers };
 
 static uint8_t *mine(struct buffer *buffer) { return buffer->was + buffer->at; }
 static uint8_t *lent(struct buffer *buffer, int side) { return buffer->side[side] + buffer->at; }
@@ -185,6 +186,27 @@ static void choose_area(void)
     renew(&area, percent(80) ? MODULE_AREA_SIZE : odd_length(MODULE_AREA_SIZE));
 }
 
+/* ---- Slots ---- */
+
+/* Slots that go on from the last turn, or random ones, now and then with another selector or of another length. */
+static void choose_slots(void)
+{
+    if (slots.length == SLOTS_BYTES && mine(&slots)[0] <= 1 && !percent(25))
+        return;
+    renew(&slots, percent(90) ? SLOTS_BYTES : odd_length(SLOTS_BYTES));
+    if (slots.length > 0 && percent(85))
+        mine(&slots)[0] = (uint8_t)below(2);
+    else if (slots.length > 0 && percent(50))
+        mine(&slots)[0] = (uint8_t)(2 + below(2));
+}
+
+static uint64_t choose_slot(void)
+{
+    if (percent(80))
+        return below(2);
+    return percent(50) ? 2 + below(3) : below(2) + ((uint64_t)1 << (8 + below(56)));
+}
+
 /* ---- Requests ---- */
 
 static uint32_t context(void)
@@ -256,11 +278,11 @@ static void choose_request(uint64_t function)
 
 /* ---- One turn ---- */
 
-enum event { FRESH, CALL, TICK, POWER };
+enum event { FRESH, CALL, TICK, POWER, SLOTS_FRESH, SLOTS_WRITE, SLOTS_SELECT, SLOTS_READ, EVENTS };
 
 struct turn {
     enum event event;
-    uint64_t revision, function;
+    uint64_t revision, function, slot;
     int32_t given[SIDES];
 };
 
@@ -281,44 +303,73 @@ static uint64_t choose_revision(void)
     return percent(60) ? 1 : percent(50) ? below(5) : percent(50) ? 2 + ((uint64_t)1 << (8 + below(56))) : next();
 }
 
-static struct turn choose(void)
+static enum event choose_event(void)
 {
     unsigned kind = (unsigned)below(100);
-    struct turn turn = {.event = kind < 1 ? FRESH : kind < 80 ? CALL : kind < 96 ? TICK : POWER};
+
+    if (kind < 92)
+        return kind < 1 ? FRESH : kind < 73 ? CALL : kind < 88 ? TICK : POWER;
+    return kind < 93 ? SLOTS_FRESH : kind < 96 ? SLOTS_WRITE : kind < 98 ? SLOTS_SELECT : SLOTS_READ;
+}
+
+static struct turn choose(void)
+{
+    struct turn turn = {.event = choose_event()};
 
     good_image = false;
     choose_area();
     choose_record();
+    choose_slots();
     if (good_image)
         turn.event = TICK;
     turn.revision = choose_revision();
     turn.function = choose_function();
+    turn.slot = choose_slot();
     choose_request(turn.function);
     renew(&answer, percent(92) ? 64 + below(40) : below(66));
     return turn;
 }
 
-static void make(struct turn *turn)
+static int32_t by_library(const struct turn *turn)
 {
-    uint8_t *r = lent(&record, 0), *a = lent(&area, 0), *q = lent(&request, 0), *b = lent(&answer, 0);
+    uint8_t *r = lent(&record, 0), *a = lent(&area, 0), *q = lent(&request, 0), *b = lent(&answer, 0), *s = lent(&slots, 0);
 
     switch (turn->event) {
-    case FRESH: turn->given[0] = module_fresh(r, record.length); break;
-    case TICK: turn->given[0] = module_tick(r, record.length, a, area.length); break;
-    case POWER: turn->given[0] = module_power(r, record.length, a, area.length); break;
-    case CALL:
-        turn->given[0] = module_call(r, record.length, a, area.length, turn->revision, turn->function, q, request.length, b,
-                                     answer.length);
+    case FRESH: return module_fresh(r, record.length);
+    case TICK: return module_tick(r, record.length, a, area.length);
+    case POWER: return module_power(r, record.length, a, area.length);
+    case SLOTS_FRESH: return slots_fresh(s, slots.length);
+    case SLOTS_WRITE: return slots_write(s, slots.length, r, record.length);
+    case SLOTS_SELECT: return slots_select(s, slots.length, turn->slot);
+    case SLOTS_READ: return slots_read(s, slots.length, r, record.length);
+    default:
+        return module_call(r, record.length, a, area.length, turn->revision, turn->function, q, request.length, b,
+                           answer.length);
     }
-    r = lent(&record, 1), a = lent(&area, 1), q = lent(&request, 1), b = lent(&answer, 1);
+}
+
+static int32_t by_independent(const struct turn *turn)
+{
+    uint8_t *r = lent(&record, 1), *a = lent(&area, 1), *q = lent(&request, 1), *b = lent(&answer, 1), *s = lent(&slots, 1);
+
     switch (turn->event) {
-    case FRESH: turn->given[1] = independent_fresh(r, record.length); break;
-    case TICK: turn->given[1] = independent_tick(r, record.length, a, area.length); break;
-    case POWER: turn->given[1] = independent_power(r, record.length, a, area.length); break;
-    case CALL:
-        turn->given[1] = independent_call(r, record.length, a, area.length, turn->revision, turn->function, q, request.length,
-                                          b, answer.length);
+    case FRESH: return independent_fresh(r, record.length);
+    case TICK: return independent_tick(r, record.length, a, area.length);
+    case POWER: return independent_power(r, record.length, a, area.length);
+    case SLOTS_FRESH: return independent_slots_fresh(s, slots.length);
+    case SLOTS_WRITE: return independent_slots_write(s, slots.length, r, record.length);
+    case SLOTS_SELECT: return independent_slots_select(s, slots.length, turn->slot);
+    case SLOTS_READ: return independent_slots_read(s, slots.length, r, record.length);
+    default:
+        return independent_call(r, record.length, a, area.length, turn->revision, turn->function, q, request.length, b,
+                                answer.length);
     }
+}
+
+static void make(struct turn *turn)
+{
+    turn->given[0] = by_library(turn);
+    turn->given[1] = by_independent(turn);
 }
 
 /* ---- Comparing ---- */
@@ -342,34 +393,37 @@ static const char *fault(const struct turn *turn, const struct buffer **where)
     *where = &record;
     if (turn->given[0] != turn->given[1])
         return "the numbers given differ";
-    for (int i = 0; i < 4; i++) {
+    for (int i = 0; i < BUFFERS; i++) {
         *where = buffers[i];
         if (!guarded(*where, 0) || !guarded(*where, 1))
             return "a guard was touched";
         if (memcmp((*where)->side[0], (*where)->side[1], whole(*where)) != 0)
             return "the bytes differ";
         if (turn->given[0] < 0 && !untouched(*where, 0))
-            return "an R number wrote something";
+            return "a refusal wrote something";
     }
     *where = &request;
     return untouched(&request, 0) ? NULL : "the request was written";
 }
 
+static const char *const names[] = {"fresh",       "calls",       "ticks",        "power cycles",
+                                    "slots_fresh", "slots_write", "slots_select", "slots_read"};
+
 static void show(const struct turn *turn, uint64_t number, const char *what, const struct buffer *where)
 {
-    static const char *const events[] = {"fresh", "call", "tick", "power"};
     size_t i = 0;
 
     printf("turn %llu: %s (%s)\n", (unsigned long long)number, what, where->name);
-    printf("%s revision %llu function %llu: library %d, independent %d\n", events[turn->event],
-           (unsigned long long)turn->revision, (unsigned long long)turn->function, (int)turn->given[0], (int)turn->given[1]);
+    printf("%s revision %llu function %llu slot %llu: library %d, independent %d\n", names[turn->event],
+           (unsigned long long)turn->revision, (unsigned long long)turn->function, (unsigned long long)turn->slot,
+           (int)turn->given[0], (int)turn->given[1]);
     while (i + 1 < whole(where) && where->side[0][i] == where->side[1][i])
         i++;
     printf("first byte that differs: %d: library %u, independent %u, before %u\n", (int)i - (int)where->at, where->side[0][i],
            where->side[1][i], where->was[i]);
-    for (int b = 0; b < 4; b++) {
+    for (int b = 0; b < BUFFERS; b++) {
         printf("%s, %u bytes:", buffers[b]->name, (unsigned)buffers[b]->length);
-        for (i = 0; i < buffers[b]->length && i < 128; i++)
+        for (i = 0; i < buffers[b]->length && i < SLOTS_BYTES; i++)
             printf(" %02x", buffers[b]->was[buffers[b]->at + i]);
         printf("\n");
     }
@@ -377,10 +431,9 @@ static void show(const struct turn *turn, uint64_t number, const char *what, con
 
 /* ---- What came up ---- */
 
-static uint64_t tally[4][16], stagings, failures;
-static const char *const names[] = {"fresh", "calls", "ticks", "power cycles"};
+static uint64_t tally[EVENTS][16], stagings, failures;
 
-/* Answers by kind: 1 to 3 the R numbers, 4 on the statuses. */
+/* Answers by kind: 1 to 3 the R numbers, or 1 a refusal of the slots; 4 on the statuses, or the slots' numbers. */
 static void count(const struct turn *turn)
 {
     const uint8_t *after = lent(&record, 0);
@@ -388,6 +441,8 @@ static void count(const struct turn *turn)
 
     if (kind == 0 && turn->event == CALL)
         kind = turn->function == 0 ? 4 : 4 + get16(lent(&answer, 0));
+    if (kind == 0 && turn->event >= SLOTS_FRESH)
+        kind = 4 + (unsigned)turn->given[0];
     tally[turn->event][kind & 15]++;
     if (turn->event == TICK && kind == 0 && mine(&record)[0] == VERIFYING) {
         stagings += after[0] == STAGED;
@@ -410,6 +465,9 @@ static void report(uint64_t turns)
         if (event == CALL)
             printf("\n");
     }
+    for (int event = SLOTS_FRESH; event < EVENTS; event++)
+        printf("%s: refused %llu, 0 %llu, 1 %llu\n", names[event], (unsigned long long)tally[event][1],
+               (unsigned long long)tally[event][4], (unsigned long long)tally[event][5]);
     printf("verified: %llu staged, %llu failed\n", (unsigned long long)stagings, (unsigned long long)failures);
 }
 
@@ -426,6 +484,9 @@ static const struct {
     {CALL, 4 + 0, "status 0"},  {CALL, 4 + 1, "status 1"},   {CALL, 4 + 3, "status 3"},   {CALL, 4 + 6, "status 6"},
     {CALL, 4 + 7, "status 7"},  {CALL, 4 + 8, "status 8"},   {CALL, 4 + 10, "status 10"}, {CALL, 4 + 11, "status 11"},
     {TICK, 2, "R2"},            {TICK, 3, "R3"},             {POWER, 2, "R2"},            {POWER, 3, "R3"},
+    {SLOTS_FRESH, 1, "-1"},     {SLOTS_FRESH, 4, "0"},       {SLOTS_WRITE, 1, "-1"},      {SLOTS_WRITE, 4, "0"},
+    {SLOTS_WRITE, 5, "1"},      {SLOTS_SELECT, 1, "-1"},     {SLOTS_SELECT, 4, "0"},      {SLOTS_READ, 1, "-1"},
+    {SLOTS_READ, 4, "0"},
 };
 
 static bool reached(uint64_t count, const char *who, const char *what)
@@ -452,6 +513,7 @@ static void go_on(const struct turn *turn)
     goes_on = turn->given[0] != R3;
     memcpy(record.was, record.side[0], whole(&record));
     memcpy(area.was, area.side[0], whole(&area));
+    memcpy(slots.was, slots.side[0], whole(&slots));
 }
 
 int main(int words, char **word)
@@ -464,7 +526,7 @@ int main(int words, char **word)
     uint64_t turns = strtoull(word[2], NULL, 10);
     for (uint64_t i = 0; i < turns; i++) {
         struct turn turn = choose();
-        for (int b = 0; b < 4; b++)
+        for (int b = 0; b < BUFFERS; b++)
             lend(buffers[b]);
         make(&turn);
         const char *what = fault(&turn, &where);

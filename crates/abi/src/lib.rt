@@ -7,6 +7,7 @@ ghost use Rattle.rules.specs.Numbers.{answerRoom};
 ghost use Rattle.rules.specs.Record.{moduleOf};
 ghost use Rattle.rules.specs.Module.{callResult, tickResult, powerResult};
 ghost use Rattle.device_encode.specs.Encoding.{encodedSize, encodeOf, decodeOf};
+ghost use Rattle.device_slots.specs.Slots.{freshNumber, freshSlots, writeNumber, writeSlots, selectNumber, selectSlots, readNumber, readRecord};
 ghost use Rattle.abi.specs.Abi.{refusal, told, keptBy, Called, Happened, Made, Keepable};
 use device_encode::ENCODED_SIZE;
 use module::Outcome;
@@ -100,4 +101,36 @@ pub extern "C" fn module_power(bytes: &mut [u8], area: &[u8]) -> i32
     let d = device_decode::decode(bytes);
     let outcome = module::power(d, area);
     keep(outcome, bytes)
+}
+
+#[no_mangle]
+pub extern "C" fn slots_fresh(slots: &mut [u8]) -> i32
+    ensures { λ r. ⌜ r ≡ freshNumber (now (slots .entry)) ⌝ }
+    ensures { λ r. ⌜ now (slots .exit) ≡ freshSlots (now (slots .entry)) ⌝ }
+{
+    device_slots::fresh(slots)
+}
+
+#[no_mangle]
+pub extern "C" fn slots_write(slots: &mut [u8], bytes: &[u8]) -> i32
+    ensures { λ r. ⌜ r ≡ writeNumber (now (slots .entry)) (now (bytes .entry)) ⌝ }
+    ensures { λ r. ⌜ now (slots .exit) ≡ writeSlots (now (slots .entry)) (now (bytes .entry)) ⌝ }
+{
+    device_slots::write(slots, bytes)
+}
+
+#[no_mangle]
+pub extern "C" fn slots_select(slots: &mut [u8], slot: u64) -> i32
+    ensures { λ r. ⌜ r ≡ selectNumber (now (slots .entry)) slot ⌝ }
+    ensures { λ r. ⌜ now (slots .exit) ≡ selectSlots (now (slots .entry)) slot ⌝ }
+{
+    device_slots::select(slots, slot)
+}
+
+#[no_mangle]
+pub extern "C" fn slots_read(slots: &[u8], bytes: &mut [u8]) -> i32
+    ensures { λ r. ⌜ r ≡ readNumber (now (slots .entry)) (now (bytes .entry)) ⌝ }
+    ensures { λ r. ⌜ now (bytes .exit) ≡ readRecord (now (slots .entry)) (now (bytes .entry)) ⌝ }
+{
+    device_slots::read(slots, bytes)
 }
