@@ -6,7 +6,7 @@
  *
  * For every function:
  *  - Any bytes of any length get an answer. Nothing is asked of a buffer but that it has the bytes that its length says.
- *  - No pointer is NULL. A buffer of length 0 may point anywhere (so may an empty request), but not to NULL.
+ *  - No pointer is NULL, not with length 0 either: a buffer of length 0, such as an empty request, may point anywhere else.
  *  - A buffer that a function writes overlaps no other buffer of the same call. Those that are only read may overlap.
  *  - No two calls at one time on the same record or the same area.
  *  - An R number (below 0) has written nothing at all.
@@ -122,6 +122,19 @@ extern "C" {
  *
  * Bytes that are not of this form are no record, and give R3. 128 zeros are of this form: a record with running version 0, and
  * not what module_fresh makes. */
+
+/* An image, which the pieces of a transfer make, joined: 1 to MODULE_IMAGE_MOST records of MODULE_IMAGE_RECORD bytes, and nothing
+ * before, between or behind them. Record i of n, from 0, little-endian:
+ *
+ *   0-1      i
+ *   2-3      n
+ *   4-11     the version: not 0, and the same in every record
+ *   12-123   payload: anything
+ *   124-127  the sum of the 31 numbers of 4 bytes before it (at 0, 4, .. 120), wrapped at 32 bits
+ *
+ * A Send's piece may begin and end anywhere in it. Bytes of any other form are received all the same, and fail at the last tick. */
+#define MODULE_IMAGE_RECORD 128
+#define MODULE_IMAGE_MOST 128
 
 /* A new module's record: Idle, running version 1, everything else zero or off. Once in a module's life.
  *
