@@ -128,6 +128,19 @@ extern "C" {
  * Bytes that are not of this form are no record, and give R3. 128 zeros are of this form: a record with running version 0, and
  * not what module_fresh makes. */
 
+/* An image, which the pieces of a transfer make, joined: 1 to MODULE_IMAGE_MOST records of MODULE_IMAGE_RECORD bytes, and nothing
+ * before, between or behind them. Record i of n, from 0, little-endian:
+ *
+ *   0-1      i
+ *   2-3      n
+ *   4-11     the version: not 0, and the same in every record
+ *   12-123   payload: anything
+ *   124-127  the sum of the 31 numbers of 4 bytes before it (at 0, 4, .. 120), wrapped at 32 bits
+ *
+ * A Send's piece may begin and end anywhere in it. Bytes of any other form are received all the same, and fail at the last tick. */
+#define MODULE_IMAGE_RECORD 128
+#define MODULE_IMAGE_MOST 128
+
 /* A new module's record: Idle, running version 1, everything else zero or off. Once in a module's life.
  *
  * Reads:   the length of the record; none of its bytes.

@@ -76,6 +76,12 @@ def not_taken(name, wrong):
         print(f"{name}: standard output: {why(wrong)}", file=sys.stderr)
 
 
+def misused(name, words, usage):
+    """Says what was not understood, and how the command is used. The exit status of bad usage."""
+    print(f"{name}: not understood: {' '.join(words) or 'no word at all'}\n{usage}", file=sys.stderr)
+    return 2
+
+
 def command(name, main):
     """Ends with the exit status that main gives for the command's words, and with 2 where what it prints is not taken."""
     if not has_output(name):

@@ -243,7 +243,8 @@ int main(int count, char **arguments)
 
     if (count < 3
         || (strcmp(arguments[1], "replay") != 0 && strcmp(arguments[1], "answers") != 0)) {
-        fputs("usage: independent replay FILE..\n"
+        fputs("independent: not understood\n"
+              "usage: independent replay FILE..\n"
               "       independent answers FILE..\n"
               "A FILE of - is standard input.\n", stderr);
         return 2;

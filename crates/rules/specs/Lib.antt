@@ -1,26 +1,43 @@
 -- Document 01 as definitions, in the page's order, but for two: an image stands before the transfer that verifies it, and the module, the page's first
 -- section, after the parts that it joins. Vocabulary first: tests, bytes, text.
 --
--- How to read them. `abbrev` and `unfoldable` both begin a definition; the line below its name and type is what it says. `f x y` is f of x and y; `x .f`
--- is the field f of x; `p .0` and `p .1` are the two halves of a pair; `λ m. ..` is "given m, ..". ℕ is the numbers 0, 1, 2 and so on, of any size. A
--- list is `[]`, empty, or `a ∷ b`, a before the list b; `++` joins two lists; `take n` and `drop n` are a list's first n and all after them. `=?`, `<?`
--- and `≤?` compare two numbers and come out true or false; `&&` is and, `||` is or. `length s` is how many s has; `replicate n a` is a, n times; `zero` and
--- `suc n` are 0 and n + 1; `n - m` is 0 where m is the greater; `/` and `%` divide, without and for the remainder; `^` is a power.
--- Underscores in a name show where its parts go: `_with-ticks_` is written `t with-ticks 0`. Where several lines begin with the name, they are cases: the line
--- whose left side fits is the one that counts. `f x .g` is the field g of `f x`; `x .f y` is the field f of x, of y. `record { f = a; g = b }` is the record
--- with these fields. `0x` begins a number in base 16; "\n" is a line feed; `not` turns true and false round.
--- `use` says which file a name comes from; under `declared` stand the types of src/lib.rt. `pub` lets other files use the name. `infix` lines say how tightly a
--- sign binds. `f x y` and `x .f` bind tightest; then, from tight to loose: `^`, `*` `/` `%`, `gets`, `∷`, `+` `-` `++`, `and-then`, comparisons and `is`, `&&`,
--- `||`, `implies` `unless`, `gives`, `with-..`, `if`, `≡`, `⊎`, `↔`, `→`.
--- What ends in `Bool` is a test. What ends in `Type 0`, its name with a capital, is a sort of thing, as `Event` is, or a statement, as `Honest` is. Below
--- `module _ (M : A) where` every definition takes M first.
--- In the line of a type `A → B → C` takes an A and a B and gives a C; `(n : A)` names what is taken, and in braces, `{h : A}`, it is left unwritten where
--- it is used; `A × B` is a pair of both. `data` lists the forms that a thing may have; `record` the fields that it has.
--- A statement: `≡` is "equals", `≤` and `<` as usual, `×` and, `⊎` or, `→` "if .., then ..", `↔` "exactly when", `⊥` never, `Unit {0}` always; `(x : A) → ..`
--- is "for every x". A `record` of statements holds where every one of its lines does; a line that names a thing, as `transfer : FinishedIn h` in
--- `Due`, says that there is one. A `data` of statements, as `ByMoves`, holds where one of its forms can be made.
--- `--` begins a remark. Words in quotes there are the page's or the demand's own; `..` stands for words left out, and what is in [ ] is added.
--- "Assumes nothing" says that a file rests on no unproved assumption.
+-- One definition, read aloud (Transfer.antt):
+--
+--     startChecks : Transfer → List Check
+--     startChecks t =
+--         (t .phase is Receiving || t .phase is Verifying gives Status 7 1)
+--         ∷ (t .phase is Staged gives Status 7 2)
+--         ∷ (given t =? lastContext gives Status 8 0)
+--         ∷ []
+--
+-- "startChecks takes a transfer and gives a list of checks. Of a transfer t they are: if the phase of t is Receiving, or the phase of t is Verifying, that gives
+-- status 7 with extended number 1; next, if the phase of t is Staged, that gives status 7 with 2; next, if the number given out by t equals the last context, that
+-- gives status 8 with 0; and that is all." Of a list of checks the first whose test is true decides, and where none is the call is accepted (`verdict`,
+-- Refusals.antt). So this is the page's "Start. Receiving or Verifying: 7/1. Staged: 7/2. Every context given out: 8."
+--
+-- The signs, by what they are for:
+--
+-- A definition begins with `abbrev` or `unfoldable`, its name and, behind `:`, its type; the line below is what it says. `f x y` is f of x and y. `x .f` is the
+-- field f of x; `f x .g` is the field g of `f x`; `x .f y` is the field f of x, of y; `p .0` and `p .1` are the two halves of a pair. `λ m. ..` is "given m, ..".
+-- `record { f = a; g = b }` is the record with these fields. Underscores in a name show where its parts go: `_with-ticks_` is written `t with-ticks 0`. Where
+-- several lines begin with the name, they are cases: the line whose left side fits is the one that counts. Below `module _ (M : A) where` every definition
+-- takes M first.
+-- Numbers: ℕ is 0, 1, 2 and so on, of any size; `zero` and `suc n` are 0 and n + 1; `n - m` is 0 where m is the greater; `/` and `%` divide, without and for the
+-- remainder; `^` is a power; `0x` begins a number in base 16.
+-- Tests come out true or false, and their type ends in `Bool`: `=?`, `<?` and `≤?` compare two numbers; `&&` is and, `||` is or, `not` turns true and false round.
+-- Lists: `[]` is empty, `a ∷ b` is a before the list b; `++` joins two lists; `take n` and `drop n` are a list's first n and all after them; `length s` is how
+-- many s has; `replicate n a` is a, n times. "\n" is a line feed.
+-- Types: `A → B → C` takes an A and a B and gives a C; `(n : A)` names what is taken, and in braces, `{h : A}`, it is left unwritten where it is used; `A × B` is a
+-- pair of both. `data` lists the forms that a thing may have, `record` the fields that it has. What ends in `Type 0`, its name with a capital, is a sort of
+-- thing, as `Event` is, or a statement, as `Honest` is.
+-- Statements: `≡` is "equals", `≤` and `<` as usual, `×` and, `⊎` or, `→` "if .., then ..", `↔` "exactly when", `⊥` never, `Unit {0}` always; `(x : A) → ..` is
+-- "for every x". A `record` of statements holds where every one of its lines does; a line that names a thing, as `transfer : FinishedIn h` in `Due`, says that
+-- there is one. A `data` of statements, as `ByMoves`, holds where one of its forms can be made.
+-- Files: `use` says which file a name comes from; under `declared` stand the types of src/lib.rt. `pub` lets other files use the name. `--` begins a remark. Words
+-- in quotes there are the page's or the demand's own; `..` stands for words left out, and what is in [ ] is added. "Assumes nothing" says that a file rests on
+-- no unproved assumption.
+-- How tightly signs bind, which `infix` lines say: `f x y` and `x .f` tightest; then, from tight to loose: `^`, `*` `/` `%`, `gets`, `∷`, `+` `-` `++`, `and-then`,
+-- comparisons and `is`, `&&`, `||`, `implies` `unless`, `gives`, `with-..`, `if`, `≡`, `⊎`, `↔`, `→`.
 pub mod Tests
 pub mod Bytes
 pub mod Text
