@@ -12,7 +12,7 @@ use Rattle.rules.specs.Transfer.{GetFwInfo, Start, Send, Finish, Query}
 use Rattle.rules.specs.Module.{Call, OnMask, OnThresholds, OnTransfer, OnSecurity, OnNothing, Event, call, tick, power, callIn}
 use Rattle.rules.specs.Transfers.{Exchange, History, Kind, Started, Sent, Finished, Ticked, Powered, Other, kindOf}
 use Rattle.rules.specs.Hosts.{Carries, Uses, AnsweredTo, HonestAfter, Honest}
-use Rattle.rules.proofs.Choice.{and-true}
+use Rattle.rules.proofs.page.Choice.{and-true}
 
 -- a Start that answered the context to the host
 abbrev startedTo : (host context : ℕ) → Kind → Bool

@@ -7,11 +7,11 @@ use native.Mathlib.Omega.{arith}
 use lib.ListN.{length, take, drop, replicate, length-replicate}
 use Rattle.rules.specs.Bytes.{le, zeros, zeros?}
 use Rattle.rules.specs.Numbers.{areaSize}
-use Rattle.rules.specs.Record.{phaseNumber, possible, possibleTransfer, possibleSecurity, possibleThresholds}
+use Rattle.rules.specs.Record.{phaseNumber, possible, possibleTransfer, possibleSecurity, possibleThresholds, Module}
 use Rattle.rules.specs.Refusals.{verdict}
 use Rattle.rules.specs.Table.{rowOf, fits?}
 use Rattle.rules.specs.Image.{sumOfWords, goodRecord, goodRecords, goodImage, imageOf}
-use Rattle.rules.specs.Module.{Module, Result, Event, call, tick, power, outOf, after, callResult, tickResult, powerResult}
+use Rattle.rules.specs.Module.{Result, Event, call, tick, power, step, callResult, tickResult, powerResult}
 use Rattle.rules.specs.Replay.{printedStatus, printedExt}
 use Rattle.rules.specs.History.{historyOf}
 use Rattle.rules.specs.Transfers.{machine, Exchange}
@@ -19,7 +19,7 @@ use Rattle.rules.specs.Moves.{rearranged}
 use Rattle.rules.specs.Hosts.{Honest}
 use Rattle.rules.specs.Demand3.{freshWith, struck, EachFromOneHost, Demand3Of}
 use Rattle.rules_demands.proofs.Checked.{checked}
-use Rattle.rules.proofs.Demand3.{demand-3}
+use Rattle.rules.proofs.histories.Demand3.{demand-3}
 
 abbrev recorder : ℕ
 recorder = 1
@@ -71,14 +71,14 @@ abbrev row : Result → List ℕ
 row result =
     printedStatus (result .reply .verdict)
     ∷ printedExt (result .reply .verdict)
-    ∷ phaseNumber (result .device .transfer .phase)
-    ∷ result .device .transfer .staged
-    ∷ result .device .transfer .running
+    ∷ phaseNumber (result .after .device .transfer .phase)
+    ∷ result .after .device .transfer .staged
+    ∷ result .after .device .transfer .running
     ∷ []
 
 abbrev told : Module → List Event → List (List ℕ)
 told m [] = []
-told m (event ∷ events) = row (outOf m event) ∷ told (after (outOf m event)) events
+told m (event ∷ events) = row (step m event) ∷ told (step m event .after) events
 
 -- Every Start of the laptop is refused, one image is staged, by the eighth tick, and after the restart it is the running one.
 pub comes-to : told new (same-hour ++ restart)

@@ -1,6 +1,6 @@
 -- `rules_demands::demand_1` meets its contract. It is the theorem of rules.
 -- Assumes nothing.
-use Rattle.rules.proofs.Demand1.{demand-1}
+use Rattle.rules.proofs.page.Demand1.{demand-1}
 use Rattle.rules_demands.proofs.demand_1.Statement.{statement}
 use Rattle.rules_demands.proofs.demand_1.Tie as tie
 

@@ -1,6 +1,6 @@
 -- `rules_demands::demand_3` meets its contract. It is the theorem of rules.
 -- Assumes nothing.
-use Rattle.rules.proofs.Demand3.{demand-3}
+use Rattle.rules.proofs.histories.Demand3.{demand-3}
 use Rattle.rules_demands.proofs.demand_3.Statement.{statement}
 use Rattle.rules_demands.proofs.demand_3.Tie as tie
 
