@@ -135,8 +135,7 @@ module _ (m : Module) (h r : History) where
         k = rearranged r;
         by-moves = moves-written (a .by-moves);
         unbroken = λ f.
-            let u = a .unbroken (finished-in f) in
-            (
+            let u = a .unbroken (finished-in f) in (
               u .ahead,
               u .behind,
               u .stands ∙ ap (λ (z : History). u .ahead ++ (f .start ∷ (z ++ (f .finish ∷ u .behind)))) (sends-is (f .context) (f .between)),

@@ -5,5 +5,8 @@ pub mod Words
 pub mod Turns
 pub mod Checked
 pub mod Histories
+pub mod Beside
+-- The lists of cases and of texts.
+pub mod Examples
 -- That demand 3 is not empty: the incident at sea, computed.
 pub mod Incident

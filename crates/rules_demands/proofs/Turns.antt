@@ -161,12 +161,9 @@ in-turn h all =
     }
 
 pub one-host : (h : History) → AllByStarter none h → FromOneHostWrittenOut h
-one-host h all =
-    record {
-      sends = λ before since x host context offset piece whole is starter other o.
-          subst (λ (now : Open). ByStarter now (Sent host context offset piece)) (open-now before starter other o)
-          (by-starter h before since x whole (Sent host context offset piece) is all);
-      finishes = λ before since x host context flag whole is starter other o.
-          subst (λ (now : Open). ByStarter now (Finished host context flag)) (open-now before starter other o)
-          (by-starter h before since x whole (Finished host context flag) is all);
-    }
+one-host h all before since x host whole (inl (context, offset, piece, sent)) starter other o =
+    subst (λ (now : Open). ByStarter now (Sent host context offset piece)) (open-now before starter other o)
+    (by-starter h before since x whole (Sent host context offset piece) sent all)
+one-host h all before since x host whole (inr (context, flag, finished)) starter other o =
+    subst (λ (now : Open). ByStarter now (Finished host context flag)) (open-now before starter other o)
+    (by-starter h before since x whole (Finished host context flag) finished all)

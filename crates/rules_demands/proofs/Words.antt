@@ -36,7 +36,7 @@ kind-call host revision index request lent (Refused refusal) n buffer =
     index table
     (refl, (refl, (refl, (refl, (refl, (refl, (refl, (refl, (refl, (refl, (refl, (refl, (refl, refl)))))))))))))
 
-kind-event : (event : Event) (got : Answer) → eventKind event got ≡ answeredAs event (got .reply .verdict) (got .buffer)
+pub kind-event : (event : Event) (got : Answer) → eventKind event got ≡ answeredAs event (got .reply .verdict) (got .buffer)
 kind-event (call host revision index request lent) got =
     kind-call host revision index request lent (got .reply .verdict) (got .reply .length) (got .buffer)
 kind-event tick got = refl

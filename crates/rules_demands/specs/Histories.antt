@@ -91,14 +91,17 @@ pub record OneAfterAnotherWrittenOut (h : History) : Type 0 where
       → what x ≡ Finished host context flag
       → (starter : ℕ) × OpenAfter before starter context
 
--- The open one is that host's own.
-pub record FromOneHostWrittenOut (h : History) : Type 0 where
-  pub sends : (before since : History) (x : Exchange) (host context offset : ℕ) (piece : List ℕ) → h ≡ before and-then x ∷ since
-      → what x ≡ Sent host context offset piece
-      → (starter other : ℕ) → OpenAfter before starter other → host ≡ starter
-  pub finishes : (before since : History) (x : Exchange) (host context flag : ℕ) → h ≡ before and-then x ∷ since
-      → what x ≡ Finished host context flag
-      → (starter other : ℕ) → OpenAfter before starter other → host ≡ starter
+-- A Send and a Finish are by the host whose transfer is open.
+abbrev pub Sends : Exchange → (host : ℕ) → Type 0
+Sends x host = (context : ℕ) × (offset : ℕ) × (piece : List ℕ) × (what x ≡ Sent host context offset piece)
+
+abbrev pub Finishes : Exchange → (host : ℕ) → Type 0
+Finishes x host = (context : ℕ) × (flag : ℕ) × (what x ≡ Finished host context flag)
+
+abbrev pub FromOneHostWrittenOut : History → Type 0
+FromOneHostWrittenOut h =
+    (before since : History) (x : Exchange) (host : ℕ) → h ≡ before and-then x ∷ since → Sends x host ⊎ Finishes x host
+    → (starter context : ℕ) → OpenAfter before starter context → host ≡ starter
 
 -- what an event stages: the module is Staged with the version, and was not
 pub record StagesWrittenOut (m : Module) (event : Event) (version : ℕ) : Type 0 where

@@ -3,3 +3,6 @@
 pub mod Calls
 pub mod Words
 pub mod Histories
+pub mod Beside
+-- What the lists of cases and of texts must have.
+pub mod Examples
