@@ -16,7 +16,6 @@ use Rattle.rules.specs.Transfers.{machine, Sent, Finished, Other}
 use Rattle.rules.specs.Beside.{NoSend, AreaStays, FrozenFirst, TakenOver}
 use Rattle.rules.specs.declared.Phase.{Phase}
 use Rattle.rules.specs.declared.Phase.the-variants.{Staged}
-use Rattle.rules.specs.declared.Refusal.{Refusal}
 use Rattle.rules.specs.declared.Security.{Security}
 use Rattle.rules.specs.declared.Verdict.{Verdict}
 use Rattle.rules.specs.declared.Verdict.the-variants.{Accepted, Refused}

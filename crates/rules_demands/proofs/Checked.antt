@@ -3,7 +3,7 @@
 use Prim.Native.Nat.{ℕ, _≤_}
 use mathlib.Core.Path.{_≡_, refl, sym, _∙_, ap, subst}
 use mathlib.Core.Logic.{_↔_, inl, inr}
-use mathlib.Core.Bool.{Bool, true, false, not, _&&_, _||_, false≢true}
+use mathlib.Core.Bool.{Bool, true, false, _&&_, _||_, false≢true}
 use mathlib.Core.List.{List, [], _∷_}
 use lib.ListN.{length}
 use borrow.Author.Tests.{eqb-true, eq-eqb, leb-true, le-leb}
@@ -11,7 +11,7 @@ use Rattle.rules.specs.Tests.{_=?_, _≤?_, _implies_}
 use Rattle.rules.specs.Bytes.{numberAt}
 use Rattle.rules.specs.Table.{table, rowOf}
 use Rattle.rules.specs.Module.{Event, call, tick, power, callOf, callIn}
-use Rattle.rules.specs.Transfers.{Exchange, History, Kind, Started, Sent, Finished, Ticked, Powered, Other}
+use Rattle.rules.specs.Transfers.{History, Kind, Started, Sent, Finished, Ticked, Powered, Other}
 use Rattle.rules.specs.Hosts.{Carries, Uses, AnsweredTo, HonestAfter, Honest}
 use Rattle.rules.specs.declared.Row.{Row}
 use Rattle.rules.proofs.page.Choice.{and-true, or-true}

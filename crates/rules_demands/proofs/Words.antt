@@ -1,7 +1,7 @@
 -- The words written out are the words of demand 3: the same kind of every exchange, the same lists, bytes and counts, the same histories and ends.
 -- Assumes nothing.
 use Prim.Native.Nat.{ℕ, _+_}
-use mathlib.Core.Path.{_≡_, refl, sym, _∙_, ap}
+use mathlib.Core.Path.{_≡_, refl, _∙_, ap}
 use mathlib.Core.Bool.{Bool, true, false, not}
 use mathlib.Core.List.{List, [], _∷_, _++_}
 use Rattle.rules.specs.Tests.{if_then_else_, _=?_}

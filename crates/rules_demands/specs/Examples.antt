@@ -5,7 +5,7 @@ use mathlib.Core.Path.{_≡_}
 use mathlib.Core.Bool.{Bool, true}
 use mathlib.Core.List.{List, [], _∷_, _++_, map}
 use lib.ListN.{length, replicate}
-use Rattle.rules.specs.Tests.{if_then_else_, _=?_}
+use Rattle.rules.specs.Tests.{if_then_else_}
 use Rattle.rules.specs.With.{_with-transfer_, _with-phase_, _with-received_, _with-staged_}
 use Rattle.rules.specs.Record.{_is_, fresh, Module, moduleOf}
 use Rattle.rules.specs.Module.{Event, call}

@@ -13,7 +13,7 @@ use Rattle.rules.specs.Image.{imageOf}
 use Rattle.rules.specs.Refusals.{refused?}
 use Rattle.rules.specs.Table.{rowOf}
 use Rattle.rules.specs.Transfer.{TransferCall, GetFwInfo, Start, Send, Finish, Query, receivedBytes}
-use Rattle.rules.specs.Module.{Call, OnMask, OnThresholds, OnTransfer, OnSecurity, OnNothing, Event, call, tick, power, callIn, step}
+use Rattle.rules.specs.Module.{Call, OnMask, OnThresholds, OnTransfer, OnSecurity, OnNothing, Event, call, tick, power, callIn}
 use Rattle.rules.specs.History.{end, afterExchange}
 use Rattle.rules.specs.Transfers.{Answer, machine, Exchange, History, Kind, Started, Sent, Finished, Other, callKind, kindOf}
 use Rattle.rules.specs.Sends.{tickCount, powerCount, powerCycles}
