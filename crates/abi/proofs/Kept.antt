@@ -9,16 +9,18 @@ use lib.Dec.{lit≤}
 use lib.IntN.{ℤ}
 use lib.ListN.{length}
 use Rattle.rules.specs.Tests.{if_then_else_, _=?_}
+use Rattle.rules.specs.Numbers.{answerRoom}
+use Rattle.rules.specs.Record.{Module, moduleOf}
 use Rattle.rules.specs.Refusals.{verdict, eventChecks, statusLength}
 use Rattle.rules.specs.Table.{rowOf, servedCheck, lengthCheck}
-use Rattle.rules.specs.Module.{Result, callOf, checks, callChecks, outcome, happened, callResult}
+use Rattle.rules.specs.Module.{Result, callIn, checks, callChecks, outcome, happened, callResult}
 use Rattle.rules.specs.declared.Refusal.the-variants.{R, Status}
 use Rattle.rules.specs.declared.Verdict.{Verdict}
 use Rattle.rules.specs.declared.Verdict.the-variants.{Accepted, Refused}
 use Rattle.rules.specs.declared.Reply.{Reply}
 use Rattle.rules.specs.declared.Device.{Device}
-use Rattle.rules.proofs.NoR.{NoR, call-through, event-through}
-use Rattle.rules.proofs.Fitting.{answers}
+use Rattle.rules.proofs.page.Past.{NoR, not-by-event, event-passed, call-passed}
+use Rattle.rules.proofs.page.Fitting.{answers}
 use Rattle.module.specs.Promise.{Promised}
 use Rattle.module.specs.declared.Outcome.{Outcome}
 use Rattle.device_encode.specs.Encoding.{encodedSize, encodeOf, decodeOf}
@@ -47,48 +49,48 @@ pub sized-by : (w : Verdict) (reply : Reply) (bytes : List ℕ) → reply .verdi
 sized-by w reply bytes e k = subst (λ (v : Verdict). Sized v bytes) e (k .sized)
 
 -- an answer with a status is no longer than the function's
-status-short : (status n : ℕ) → n ≤ 44 → statusLength status n ≤ 64
+status-short : (status n : ℕ) → n ≤ 44 → statusLength status n ≤ answerRoom
 status-short status n h = go (status =? 1)
   where
-    go : (unserved : Bool) → (if unserved then 4 else n) ≤ 64
+    go : (unserved : Bool) → (if unserved then 4 else n) ≤ answerRoom
     go true = lit≤ tt
     go false = omega arith
 
 -- a call's reply can be kept
 module _ (bytes area : List ℕ) (revision index : ℕ) (request answer : List ℕ) where
-  abbrev d : Device
-  d = decodeOf bytes
+  abbrev m : Module
+  m = moduleOf (decodeOf bytes) area
 
-  through : (v : Verdict) → verdict (callChecks d area revision index request answer) ≡ v → NoR v → length bytes ≡ encodedSize
+  through : (v : Verdict) → verdict (callChecks m revision index request answer) ≡ v → NoR v → length bytes ≡ encodedSize
   through v e n =
       possible-whole bytes
-      (call-through d area answer (servedCheck revision index ∷ lengthCheck index request ∷ checks d (callOf (rowOf index .function) revision request)) v e n .1 .0 .sound)
+      (call-passed m answer (servedCheck revision index ∷ lengthCheck index request ∷ checks m (callIn revision index request)) v e n .1 .0 .sound)
 
-  replied : (v : Verdict) → verdict (callChecks d area revision index request answer) ≡ v
-      → Keepable (outcome v d area (callOf (rowOf index .function) revision request) (rowOf index .answer) answer .reply) bytes
+  replied : (v : Verdict) → verdict (callChecks m revision index request answer) ≡ v
+      → Keepable (outcome v m (callIn revision index request) (rowOf index .answer) answer .reply) bytes
   replied Accepted e = let h = answers index .1 in record { sized = through Accepted e tt; short = omega arith }
   replied (Refused (R number)) e = record { sized = tt; short = lit≤ tt }
   replied (Refused (Status status ext)) e =
       record { sized = through (Refused (Status status ext)) e tt; short = status-short status (rowOf index .answer) (answers index .1) }
 
-  pub call-keepable : {o : Outcome} {area′ answer′ : List ℕ} → Promised (callResult d area revision index request answer) o area′ answer′ → Keepable (o .reply) bytes
+  pub call-keepable : {o : Outcome} {area′ answer′ : List ℕ} → Promised (callResult m revision index request answer) o area′ answer′ → Keepable (o .reply) bytes
   unfolding callResult
   call-keepable p = subst (λ (r : Reply). Keepable r bytes) (sym (p .reply-is)) (replied _ refl)
 
 -- a tick's and a power cycle's too
-module _ (bytes area : List ℕ) (changed : Device) where
-  happening : (v : Verdict) → verdict (eventChecks (decodeOf bytes) area) ≡ v → Keepable (happened v changed (decodeOf bytes) area .reply) bytes
-  happening Accepted e =
-      record { sized = possible-whole bytes (event-through (decodeOf bytes) area [] Accepted e tt .0 .sound); short = lit≤ tt }
-  happening (Refused (R number)) e = record { sized = tt; short = lit≤ tt }
-  happening (Refused (Status status ext)) e =
-      record {
-        sized = possible-whole bytes (event-through (decodeOf bytes) area [] (Refused (Status status ext)) e tt .0 .sound);
-        short = lit≤ tt;
-      }
+module _ (bytes area : List ℕ) (changed : Module) where
+  abbrev was : Module
+  was = moduleOf (decodeOf bytes) area
 
-  pub event-keepable : {o : Outcome} {area′ answer′ : List ℕ} → Promised (happened (verdict (eventChecks (decodeOf bytes) area)) changed (decodeOf bytes) area) o area′ answer′
-      → Keepable (o .reply) bytes
+  went : (v : Verdict) → verdict (eventChecks was) ≡ v → NoR v → length bytes ≡ encodedSize
+  went v e n = possible-whole bytes (event-passed was [] v e (not-by-event was v n) .0 .sound)
+
+  happening : (v : Verdict) → verdict (eventChecks was) ≡ v → Keepable (happened v changed was .reply) bytes
+  happening Accepted e = record { sized = went Accepted e tt; short = lit≤ tt }
+  happening (Refused (R number)) e = record { sized = tt; short = lit≤ tt }
+  happening (Refused (Status status ext)) e = record { sized = went (Refused (Status status ext)) e tt; short = lit≤ tt }
+
+  pub event-keepable : {o : Outcome} {area′ answer′ : List ℕ} → Promised (happened (verdict (eventChecks was)) changed was) o area′ answer′ → Keepable (o .reply) bytes
   event-keepable p = subst (λ (r : Reply). Keepable r bytes) (sym (p .reply-is)) (happening _ refl)
 
 -- the record that was decoded is the one whose result is promised

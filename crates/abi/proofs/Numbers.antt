@@ -9,9 +9,10 @@ use lib.Signed.{mag}
 use mir.Syntax.{w8, w32}
 use mir.Val.{Fits, SFits, hbits, toZ, ofZ}
 use mir.Facts.{toZ-pos, toZ-ofZ}
+use Rattle.rules.specs.Numbers.{answerRoom}
 use Rattle.abi.specs.Abi.{refusal}
 
-pub as-length : (n : ℕ) → n ≤ 64 → toZ w32 n ≡ pos n
+pub as-length : (n : ℕ) → n ≤ answerRoom → toZ w32 n ≡ pos n
 as-length n h = toZ-pos w32 (omega arith)
 
 negated : (n : ℕ) → n < 256 → SFits w32 (negℤ (pos n))

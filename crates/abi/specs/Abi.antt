@@ -1,4 +1,4 @@
--- What the C functions promise: the number that they give and every buffer at their end, by equations. The record is bytes (crate store); what a call, a tick
+-- What the C functions promise: the number that they give and every buffer at their end, by equations. The record is bytes (crate device_encode); what a call, a tick
 -- and a power cycle come to is document 01's (crate rules).
 -- Assumes nothing.
 use mathlib.Core.Path.{_≡_}
@@ -7,6 +7,7 @@ use Prim.Native.Nat.{ℕ, _≤_}
 use lib.IntN.{ℤ, pos, negℤ}
 use lib.ListN.{length}
 use Rattle.rules.specs.Tests.{if_then_else_, _=?_}
+use Rattle.rules.specs.Numbers.{answerRoom}
 use Rattle.rules.specs.Record.{fresh}
 use Rattle.rules.specs.Module.{Result}
 use Rattle.rules.specs.declared.Refusal.the-variants.{R, Status}
@@ -36,13 +37,13 @@ keptBy (Refused (R number)) new bytes = bytes
 keptBy (Refused (Status status ext)) new bytes = if status =? 11 then encodeOf new else bytes
 
 abbrev pub kept : Result → (bytes : List ℕ) → List ℕ
-kept result bytes = keptBy (result .reply .verdict) (result .device) bytes
+kept result bytes = keptBy (result .reply .verdict) (result .after .device) bytes
 
 -- a call, with the result that the rules give the record in these bytes
 pub record Called (result : Result) (bytes : List ℕ) (number : ℤ) (bytes′ area′ answer′ : List ℕ) : Type 0 where
   pub number-is : number ≡ told (result .reply)
   pub record-is : bytes′ ≡ kept result bytes
-  pub area-is : area′ ≡ result .area
+  pub area-is : area′ ≡ result .after .area
   pub answer-is : answer′ ≡ result .answer
 
 -- a tick or a power cycle, whose area is only read
@@ -63,4 +64,4 @@ Sized (Refused (Status status ext)) bytes = length bytes ≡ encodedSize
 
 pub record Keepable (reply : Reply) (bytes : List ℕ) : Type 0 where
   pub sized : Sized (reply .verdict) bytes
-  pub short : reply .length ≤ 64
+  pub short : reply .length ≤ answerRoom

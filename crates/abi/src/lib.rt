@@ -3,9 +3,12 @@ ghost use mathlib.Core.Path.{_≡_};
 ghost use Prim.Native.Nat.{_≤_};
 ghost use lib.IntN.{pos};
 ghost use lib.ListN.{length};
+ghost use Rattle.rules.specs.Numbers.{answerRoom};
+ghost use Rattle.rules.specs.Record.{moduleOf};
 ghost use Rattle.rules.specs.Module.{callResult, tickResult, powerResult};
-ghost use Rattle.device_encode.specs.Encoding.{encodeOf, decodeOf};
+ghost use Rattle.device_encode.specs.Encoding.{encodedSize, encodeOf, decodeOf};
 ghost use Rattle.abi.specs.Abi.{refusal, told, keptBy, Called, Happened, Made, Keepable};
+use device_encode::ENCODED_SIZE;
 use module::Outcome;
 use rules::Device;
 use rules::Refusal;
@@ -18,7 +21,7 @@ fn refusal(number: u8) -> i32
 }
 
 fn length(n: usize) -> i32
-    requires { ⌜ n ≤ 64 ⌝ }
+    requires { ⌜ n ≤ answerRoom ⌝ }
     ensures { λ r. ⌜ r ≡ pos n ⌝ }
 {
     n as i32
@@ -26,7 +29,7 @@ fn length(n: usize) -> i32
 
 // Writes the record's bytes, and gives the answer's length.
 fn write(d: Device, bytes: &mut [u8], n: usize) -> i32
-    requires { ⌜ (length (now bytes) ≡ 128) × (n ≤ 64) ⌝ }
+    requires { ⌜ (length (now bytes) ≡ encodedSize) × (n ≤ answerRoom) ⌝ }
     ensures { λ r. ⌜ (r ≡ pos n) × (now (bytes .exit) ≡ encodeOf d) ⌝ }
 {
     device_encode::put(d, bytes);
@@ -59,7 +62,7 @@ fn keep(outcome: Outcome, bytes: &mut [u8]) -> i32
 pub extern "C" fn module_fresh(bytes: &mut [u8]) -> i32
     ensures { λ r. ⌜ Made (now (bytes .entry)) r (now (bytes .exit)) ⌝ }
 {
-    if bytes.len() != 128 {
+    if bytes.len() != ENCODED_SIZE {
         return -3;
     }
     write(module::fresh(), bytes, 0)
@@ -74,7 +77,7 @@ pub extern "C" fn module_call(
     request: &[u8],
     answer: &mut [u8],
 ) -> i32
-    ensures { λ r. ⌜ Called (callResult (decodeOf (now (bytes .entry))) (now (area .entry)) revision function (now (request .entry)) (now (answer .entry))) (now (bytes .entry)) r (now (bytes .exit)) (now (area .exit)) (now (answer .exit)) ⌝ }
+    ensures { λ r. ⌜ Called (callResult (moduleOf (decodeOf (now (bytes .entry))) (now (area .entry))) revision function (now (request .entry)) (now (answer .entry))) (now (bytes .entry)) r (now (bytes .exit)) (now (area .exit)) (now (answer .exit)) ⌝ }
 {
     let d = device_decode::decode(bytes);
     let outcome = module::call(d, area, revision, function, request, answer);
@@ -83,7 +86,7 @@ pub extern "C" fn module_call(
 
 #[no_mangle]
 pub extern "C" fn module_tick(bytes: &mut [u8], area: &[u8]) -> i32
-    ensures { λ r. ⌜ Happened (tickResult (decodeOf (now (bytes .entry))) (now (area .entry))) (now (bytes .entry)) r (now (bytes .exit)) ⌝ }
+    ensures { λ r. ⌜ Happened (tickResult (moduleOf (decodeOf (now (bytes .entry))) (now (area .entry)))) (now (bytes .entry)) r (now (bytes .exit)) ⌝ }
 {
     let d = device_decode::decode(bytes);
     let outcome = module::tick(d, area);
@@ -92,7 +95,7 @@ pub extern "C" fn module_tick(bytes: &mut [u8], area: &[u8]) -> i32
 
 #[no_mangle]
 pub extern "C" fn module_power(bytes: &mut [u8], area: &[u8]) -> i32
-    ensures { λ r. ⌜ Happened (powerResult (decodeOf (now (bytes .entry))) (now (area .entry))) (now (bytes .entry)) r (now (bytes .exit)) ⌝ }
+    ensures { λ r. ⌜ Happened (powerResult (moduleOf (decodeOf (now (bytes .entry))) (now (area .entry)))) (now (bytes .entry)) r (now (bytes .exit)) ⌝ }
 {
     let d = device_decode::decode(bytes);
     let outcome = module::power(d, area);

@@ -5,6 +5,7 @@ ghost use Prim.Native.Nat.{ℕ, _≤_, _-_};
 ghost use lib.ListN.{length};
 ghost use Rattle.rules.specs.Numbers.{answerRoom};
 ghost use Rattle.rules.specs.Bytes.{zeros};
+ghost use Rattle.rules.specs.Record.{moduleOf};
 ghost use Rattle.rules.specs.Refusals.{statusBytes, statusLength, answerAfter};
 ghost use Rattle.rules.specs.Module.{callOf, acceptedAnswer};
 use rules::Device;
@@ -32,10 +33,10 @@ pub fn put_status(answer: &mut [u8], status: u16, ext: u16, size: usize)
     bytes_base::put_at(answer, 4, size - 4, 0);
 }
 
-// What an accepted call answers, which its request has no part in.
+// What an accepted call answers, which its request and the area have no part in.
 pub fn put_accepted(d: Device, function: Function, revision: u64, answer: &mut [u8])
     requires { ⌜ answerRoom ≤ length (now answer) ⌝ }
-    ensures { λ r. ⌜ ((request : List ℕ) → now (answer .exit) ≡ answerAfter (acceptedAnswer d (callOf function revision request)) (now (answer .entry))) ⌝ }
+    ensures { λ r. ⌜ ((area request : List ℕ) → now (answer .exit) ≡ answerAfter (acceptedAnswer (moduleOf d area) (callOf function revision request)) (now (answer .entry))) ⌝ }
 {
     match function {
         Function::Mask => bytes_base::put_at(answer, 0, 4, call_table::mask(revision) as u64),

@@ -3,9 +3,10 @@ ghost use mathlib.Core.Path.{_≡_};
 ghost use lib.ListN.{length};
 ghost use Rattle.rules.specs.Numbers.{areaSize};
 ghost use Rattle.rules.specs.With.{_with-transfer_, _with-thresholds_, _with-security_};
+ghost use Rattle.rules.specs.Record.{moduleOf};
 ghost use Rattle.rules.specs.Refusals.{verdict};
-ghost use Rattle.rules.specs.Module.{callOf, checks, change, changeArea};
-ghost use Rattle.rules.proofs.Fitting.{Fitting};
+ghost use Rattle.rules.specs.Module.{callOf, checks, change};
+ghost use Rattle.rules.proofs.page.Fitting.{Fitting};
 use rules::Device;
 use rules::Function;
 use rules::Security;
@@ -41,9 +42,8 @@ pub fn change(
 ) -> Device
     requires { ⌜ length (now area) ≡ areaSize ⌝ }
     requires { ⌜ Fitting function (length (now request)) ⌝ }
-    requires { ⌜ verdict (checks d (callOf function revision (now request))) ≡ Verdict.Accepted ⌝ }
-    ensures { λ r. ⌜ r ≡ change d (callOf function revision (now (request .entry))) ⌝ }
-    ensures { λ r. ⌜ now (area .exit) ≡ changeArea (callOf function revision (now (request .entry))) (now (area .entry)) ⌝ }
+    requires { ⌜ verdict (checks (moduleOf d (now area)) (callOf function revision (now request))) ≡ Verdict.Accepted ⌝ }
+    ensures { λ r. ⌜ moduleOf r (now (area .exit)) ≡ change (moduleOf d (now (area .entry))) (callOf function revision (now (request .entry))) ⌝ }
 {
     match function {
         Function::Mask => d,

@@ -7,7 +7,7 @@ use Rattle.rules.specs.Refusals.{Check, _gives_, verdict}
 use Rattle.rules.specs.declared.Refusal.{Refusal}
 use Rattle.rules.specs.declared.Verdict.{Verdict}
 use Rattle.rules.specs.declared.Verdict.the-variants.{Accepted, Refused}
-use Rattle.rules.proofs.Passed.{andThen, verdict-join}
+use Rattle.rules.proofs.page.Passed.{andThen, verdict-join}
 
 pub stands : (rows later : List Check) {refusal : Refusal} → verdict rows ≡ Refused refusal → Refused refusal ≡ verdict (rows ++ later)
 stands rows later e = sym (verdict-join rows later ∙ ap (λ (v : Verdict). andThen v (verdict later)) e)

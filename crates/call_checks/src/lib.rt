@@ -1,11 +1,14 @@
 // Order: R1, R2, R3, status 1, request length, then each function's checks as listed.
 ghost use mathlib.Core.Path.{_≡_};
-ghost use mathlib.Core.List.{[], _∷_};
+ghost use mathlib.Core.List.{List, [], _∷_};
+ghost use Prim.Native.Nat.{ℕ};
 ghost use lib.ListN.{length};
+ghost use Rattle.rules.specs.Record.{moduleOf};
 ghost use Rattle.rules.specs.Refusals.{verdict};
 ghost use Rattle.rules.specs.Table.{rowOf, fits?, servedCheck, lengthCheck};
 ghost use Rattle.rules.specs.Module.{callOf, checks, gateChecks, callChecks};
-ghost use Rattle.rules.proofs.Fitting.{Fitting};
+ghost use Rattle.rules.proofs.page.Fitting.{Fitting};
+use rules::ANSWER_ROOM;
 use rules::Device;
 use rules::Function;
 use rules::Refusal;
@@ -55,9 +58,9 @@ fn judge_gate(
     answer: &[u8],
 ) -> Verdict
     requires { ⌜ row ≡ rowOf index ⌝ }
-    ensures { λ r. ⌜ r ≡ verdict (gateChecks d (now (area .entry)) revision index (now (request .entry)) (now (answer .entry))) ⌝ }
+    ensures { λ r. ⌜ r ≡ verdict (gateChecks (moduleOf d (now (area .entry))) revision index (now (request .entry)) (now (answer .entry))) ⌝ }
 {
-    let short = answer.len() < 64;
+    let short = answer.len() < ANSWER_ROOM;
     if short {
         return Verdict::Refused(Refusal::R { number: 1 });
     }
@@ -68,10 +71,10 @@ fn judge_gate(
     }
 }
 
-// The function's own checks.
+// The function's own checks, which the area has no part in.
 fn judge_function(d: Device, function: Function, revision: u64, request: &[u8]) -> Verdict
     requires { ⌜ Fitting function (length (now request)) ⌝ }
-    ensures { λ r. ⌜ r ≡ verdict (checks d (callOf function revision (now (request .entry)))) ⌝ }
+    ensures { λ r. ⌜ ((area : List ℕ) → r ≡ verdict (checks (moduleOf d area) (callOf function revision (now (request .entry))))) ⌝ }
 {
     match function {
         Function::Mask => Verdict::Accepted,
@@ -105,7 +108,7 @@ pub fn judge(
     answer: &[u8],
 ) -> Verdict
     requires { ⌜ row ≡ rowOf index ⌝ }
-    ensures { λ r. ⌜ r ≡ verdict (callChecks d (now (area .entry)) revision index (now (request .entry)) (now (answer .entry))) ⌝ }
+    ensures { λ r. ⌜ r ≡ verdict (callChecks (moduleOf d (now (area .entry))) revision index (now (request .entry)) (now (answer .entry))) ⌝ }
 {
     let gate = judge_gate(d, area, revision, index, row, request, answer);
     match gate {

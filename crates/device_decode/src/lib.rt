@@ -2,7 +2,8 @@
 ghost use mathlib.Core.Path.{_≡_};
 ghost use lib.ListN.{length, take, drop};
 ghost use Rattle.rules.specs.Bytes.{zeros?};
-ghost use Rattle.device_encode.specs.Encoding.{phaseOf, record?, recordOf, impossible, decodeOf};
+ghost use Rattle.device_encode.specs.Encoding.{encodedSize, phaseOf, record?, recordOf, impossible, decodeOf};
+use device_encode::ENCODED_SIZE;
 use rules::Device;
 use rules::Phase;
 use rules::Security;
@@ -11,7 +12,7 @@ use rules::Transfer;
 
 // Bytes 38 to 63 are zero, by four numbers and not byte by byte.
 fn zero_between(s: &[u8]) -> bool
-    requires { ⌜ length (now s) ≡ 128 ⌝ }
+    requires { ⌜ length (now s) ≡ encodedSize ⌝ }
     ensures { λ r. ⌜ r ≡ zeros? (take 26 (drop 38 (now (s .entry)))) ⌝ }
 {
     (bytes_numbers::half(s, 38) == 0)
@@ -22,7 +23,7 @@ fn zero_between(s: &[u8]) -> bool
 
 // Bytes 96 to 127 are zero.
 fn zero_after(s: &[u8]) -> bool
-    requires { ⌜ length (now s) ≡ 128 ⌝ }
+    requires { ⌜ length (now s) ≡ encodedSize ⌝ }
     ensures { λ r. ⌜ r ≡ zeros? (drop 96 (now (s .entry))) ⌝ }
 {
     (bytes_numbers::long(s, 96) == 0)
@@ -34,7 +35,7 @@ fn zero_after(s: &[u8]) -> bool
 fn is_record(s: &[u8]) -> bool
     ensures { λ r. ⌜ r ≡ record? (now (s .entry)) ⌝ }
 {
-    if s.len() != 128 {
+    if s.len() != ENCODED_SIZE {
         return false;
     }
     let phase = bytes_numbers::byte(s, 0);
@@ -70,7 +71,7 @@ fn phase_of(n: u8) -> Phase
 }
 
 fn to_record(s: &[u8]) -> Device
-    requires { ⌜ length (now s) ≡ 128 ⌝ }
+    requires { ⌜ length (now s) ≡ encodedSize ⌝ }
     ensures { λ r. ⌜ r ≡ recordOf (now (s .entry)) ⌝ }
 {
     let phase = phase_of(bytes_numbers::byte(s, 0));

@@ -14,7 +14,7 @@ use Rattle.rules.specs.Bytes.{le, ofLe, numberAt, zeros, zeros?, splice}
 use Rattle.rules.specs.Record.{phaseNumber}
 use Rattle.rules.specs.Refusals.{oneAttemptMore}
 use Rattle.rules.specs.declared.Device.{Device}
-use Rattle.rules.proofs.Choice.{and-true}
+use Rattle.rules.proofs.page.Choice.{and-true}
 use Rattle.bytes_numbers.proofs.Bytes.{Bytes, bytes-drop, bytes-take}
 use Rattle.device_encode.specs.Encoding.{flag, encodeOf, phaseOf, record?, recordOf, decodeOf}
 use Rattle.device_encode.proofs.Fine.{Fine, fine}

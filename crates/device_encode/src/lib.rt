@@ -1,17 +1,20 @@
-// The device record as 128 bytes: specs/Store.antt has the places. Crate `restore` reads them back.
+// The device record as 128 bytes: specs/Encoding.antt has the places. Crate `device_decode` reads them back.
 // Every byte is written once, in the order of the places, and none is cleared first.
 ghost use mathlib.Core.Path.{_≡_};
 ghost use mathlib.Core.List.{_++_};
 ghost use lib.ListN.{length};
 ghost use Rattle.rules.specs.Bytes.{splice, zeros};
-ghost use Rattle.device_encode.specs.Encoding.{stateBytes, firstBytes, transferBytes, encodedThresholds, encodeOf};
+ghost use Rattle.device_encode.specs.Encoding.{encodedSize, stateBytes, firstBytes, transferBytes, encodedThresholds, encodeOf};
 use rules::Device;
 use rules::Security;
 use rules::Thresholds;
 use rules::Transfer;
 
+// How many bytes a record has.
+pub const ENCODED_SIZE: usize = 128;
+
 fn put_state(s: Security, out: &mut [u8])
-    requires { ⌜ length (now out) ≡ 128 ⌝ }
+    requires { ⌜ length (now out) ≡ encodedSize ⌝ }
     ensures { λ r. ⌜ now (out .exit) ≡ splice 1 (stateBytes s) (now (out .entry)) ⌝ }
 {
     bytes_base::put_at(out, 1, 1, s.enabled as u64);
@@ -21,7 +24,7 @@ fn put_state(s: Security, out: &mut [u8])
 }
 
 fn put_first(d: Device, out: &mut [u8])
-    requires { ⌜ length (now out) ≡ 128 ⌝ }
+    requires { ⌜ length (now out) ≡ encodedSize ⌝ }
     ensures { λ r. ⌜ now (out .exit) ≡ splice 0 (firstBytes d) (now (out .entry)) ⌝ }
 {
     let t = d.transfer;
@@ -33,7 +36,7 @@ fn put_first(d: Device, out: &mut [u8])
 }
 
 fn put_transfer(t: Transfer, out: &mut [u8])
-    requires { ⌜ length (now out) ≡ 128 ⌝ }
+    requires { ⌜ length (now out) ≡ encodedSize ⌝ }
     ensures { λ r. ⌜ now (out .exit) ≡ splice 8 (transferBytes t) (now (out .entry)) ⌝ }
 {
     bytes_base::put_at(out, 8, 4, t.contexts as u64);
@@ -43,7 +46,7 @@ fn put_transfer(t: Transfer, out: &mut [u8])
 }
 
 fn put_thresholds(h: Thresholds, out: &mut [u8])
-    requires { ⌜ length (now out) ≡ 128 ⌝ }
+    requires { ⌜ length (now out) ≡ encodedSize ⌝ }
     ensures { λ r. ⌜ now (out .exit) ≡ splice 32 (encodedThresholds h) (now (out .entry)) ⌝ }
 {
     bytes_base::put_at(out, 32, 1, h.spare as u64);
@@ -53,7 +56,7 @@ fn put_thresholds(h: Thresholds, out: &mut [u8])
 }
 
 fn put_passphrase(s: Security, out: &mut [u8])
-    requires { ⌜ length (now out) ≡ 128 ⌝ }
+    requires { ⌜ length (now out) ≡ encodedSize ⌝ }
     ensures { λ r. ⌜ now (out .exit) ≡ splice 64 (s .passphrase ++ zeros 32) (now (out .entry)) ⌝ }
 {
     bytes_base::copy_at(out, 64, &s.passphrase);
@@ -62,7 +65,7 @@ fn put_passphrase(s: Security, out: &mut [u8])
 
 // Writes the record's bytes over 128 bytes, straight into where they are kept.
 pub fn put(d: Device, out: &mut [u8])
-    requires { ⌜ length (now out) ≡ 128 ⌝ }
+    requires { ⌜ length (now out) ≡ encodedSize ⌝ }
     ensures { λ r. ⌜ now (out .exit) ≡ encodeOf d ⌝ }
 {
     put_first(d, out);
@@ -72,10 +75,10 @@ pub fn put(d: Device, out: &mut [u8])
     put_passphrase(d.security, out);
 }
 
-pub fn encode(d: Device) -> [u8; 128]
+pub fn encode(d: Device) -> [u8; ENCODED_SIZE]
     ensures { λ r. ⌜ r ≡ encodeOf d ⌝ }
 {
-    let mut out = [0u8; 128];
+    let mut out = [0u8; ENCODED_SIZE];
     put(d, &mut out);
     out
 }

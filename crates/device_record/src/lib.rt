@@ -3,7 +3,7 @@ ghost use mathlib.Core.Path.{_≡_};
 ghost use Prim.Native.Nat.{_≤_};
 ghost use lib.ListN.{length};
 ghost use Rattle.rules.specs.Bytes.{zeros?};
-ghost use Rattle.rules.specs.Record.{phaseNumber, fresh, possible, possibleTransfer, possibleSecurity, possibleThresholds};
+ghost use Rattle.rules.specs.Record.{phaseNumber, fresh, possible, possibleTransfer, possibleSecurity, possibleThresholds, moduleOf};
 ghost use Rattle.rules.specs.Refusals.{verdict, eventChecks, recordLeft};
 use rules::Device;
 use rules::Phase;
@@ -103,7 +103,7 @@ pub fn possible(d: Device) -> bool
 
 // R2 and R3, which every event can give.
 pub fn judge_event(d: Device, area: &[u8]) -> Verdict
-    ensures { λ r. ⌜ r ≡ verdict (eventChecks d (now (area .entry))) ⌝ }
+    ensures { λ r. ⌜ r ≡ verdict (eventChecks (moduleOf d (now (area .entry)))) ⌝ }
 {
     let size = area.len() == 16384;
     let possible = possible(d);

@@ -15,7 +15,7 @@ use Rattle.rules.specs.Bytes.{ofLe, numberAt}
 use Rattle.rules.specs.Image.{sumOfWords, goodRecord, goodRecords, goodSize, versionOf, goodImage, imageOf}
 use Rattle.rules.specs.Tests.{_=?_, if_then_else_}
 use Rattle.rules.specs.declared.Image.the-variants.{Good, Bad}
-use Rattle.rules.proofs.Choice.{and-true}
+use Rattle.rules.proofs.page.Choice.{and-true}
 
 -- the sum of one word more is the sum so far and that word
 sum-of-one-more : (words : ℕ) (bytes : List ℕ)

@@ -3,6 +3,7 @@
 ghost use mathlib.Core.Path.{_≡_};
 ghost use Rattle.log_reader.specs.Reader.{stoodAt, readerOf, stepOf};
 use rules::Entry;
+use rules::LOG_RECORD;
 
 pub struct LogReader<'a> {
     pub log: &'a [u8],
@@ -32,16 +33,16 @@ pub struct Step<'a> {
 pub fn stood_at(log: &[u8], place: usize) -> Stood
     ensures { λ r. ⌜ r ≡ stoodAt (now (log .entry)) place ⌝ }
 {
-    let count = log.len() / 544;
+    let count = log.len() / LOG_RECORD;
     if place < count {
-        let start = place * 544;
-        let end = start + 544;
+        let start = place * LOG_RECORD;
+        let end = start + LOG_RECORD;
         return Stood {
             found: Found::Record(log_record::decode(&log[start..end])),
             place: place + 1,
         };
     }
-    let short = (place == count) & (log.len() % 544 != 0);
+    let short = (place == count) & (log.len() % LOG_RECORD != 0);
     if short {
         return Stood {
             found: Found::Short,

@@ -12,7 +12,7 @@ use Rattle.rules.specs.Tests.{if_then_else_, _=?_, _≤?_}
 use Rattle.rules.specs.Log.{entryOf, kindIn, hostIn, revisionIn, functionIn, lengthIn, requestIn, goodCall, padded, bare}
 use Rattle.rules.specs.declared.Entry.{Entry}
 use Rattle.rules.specs.declared.Entry.the-variants.{Call, Tick, Power, Bad}
-use Rattle.rules.proofs.Choice.{and-true}
+use Rattle.rules.proofs.page.Choice.{and-true}
 use Rattle.log_record.specs.Call.{callEntry}
 
 pub record IsCall (bytes : List ℕ) (host revision function size : ℕ) : Type 0 where

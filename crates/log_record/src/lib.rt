@@ -6,6 +6,8 @@ ghost use Rattle.rules.specs.Log.{recordSize, entryOf, goodCall, bare};
 ghost use Rattle.rules.specs.declared.Entry.the-variants.{Bad};
 ghost use Rattle.log_record.specs.Call.{callEntry};
 use rules::Entry;
+use rules::LOG_RECORD;
+use rules::LONGEST_REQUEST;
 
 // The padding is scanned last, and only where the fields before it are good.
 fn good_call(bytes: &[u8]) -> bool
@@ -18,7 +20,7 @@ fn good_call(bytes: &[u8]) -> bool
         return false;
     }
     let size = bytes_numbers::half(bytes, 6);
-    if 536 < size {
+    if LONGEST_REQUEST < size {
         return false;
     }
     let end = 8 + size as usize;
@@ -57,7 +59,7 @@ fn decode_bare(bytes: &[u8], entry: Entry) -> Entry
 pub fn decode(bytes: &[u8]) -> Entry
     ensures { λ r. ⌜ r ≡ entryOf (now (bytes .entry)) ⌝ }
 {
-    if bytes.len() != 544 {
+    if bytes.len() != LOG_RECORD {
         return Entry::Bad;
     }
     let kind = bytes_numbers::byte(bytes, 0);

@@ -8,60 +8,62 @@ use lib.Dec.{lit≤}
 use lib.ListN.{length}
 use Rattle.rules.specs.Tests.{if_then_else_, _=?_}
 use Rattle.rules.specs.Bytes.{zeros}
+use Rattle.rules.specs.Numbers.{answerRoom}
+use Rattle.rules.specs.Record.{Module, moduleOf, _with-device_}
 use Rattle.rules.specs.Refusals.{verdict, eventChecks, statusBytes, statusLength, answerAfter, recordLeft}
 use Rattle.rules.specs.Table.{rowOf, servedCheck, lengthCheck}
-use Rattle.rules.specs.Module.{Result, callOf, checks, acceptedAnswer, change, changeArea, gateChecks, callChecks, outcome, happened, callResult}
+use Rattle.rules.specs.Module.{Result, callOf, callIn, checks, acceptedAnswer, change, gateChecks, callChecks, outcome, happened, callResult}
 use Rattle.rules.specs.declared.Refusal.{Refusal}
 use Rattle.rules.specs.declared.Refusal.the-variants.{R, Status}
 use Rattle.rules.specs.declared.Verdict.{Verdict}
 use Rattle.rules.specs.declared.Verdict.the-variants.{Accepted, Refused}
 use Rattle.rules.specs.declared.Row.{Row}
 use Rattle.rules.specs.declared.Device.{Device}
-use Rattle.rules.proofs.Passed.{both-accepted}
-use Rattle.rules.proofs.NoR.{NoR, Sound, call-through}
-use Rattle.rules.proofs.Fitting.{Fitting}
-use Rattle.rules.proofs.Fitting.{gate-fits, answers}
+use Rattle.rules.proofs.page.Passed.{both-accepted}
+use Rattle.rules.proofs.page.Past.{NoR, EventPassed, call-passed}
+use Rattle.rules.proofs.page.Fitting.{Fitting, gate-fits, answers}
 use Rattle.module.specs.declared.Outcome.{Outcome}
 use Rattle.module.specs.Promise.{Promised}
 
 abbrev given : Device → Verdict → ℕ → Outcome
 given device v n = record { device = device; reply = record { verdict = v; length = n } }
 
-module _ (d : Device) (area : List ℕ) (revision index : ℕ) (request answer : List ℕ) (row : Row) (looked-up : row ≡ rowOf index) where
+module _ (m : Module) (revision index : ℕ) (request answer : List ℕ) (row : Row) (looked-up : row ≡ rowOf index) where
   abbrev result : Result
-  result = callResult d area revision index request answer
+  result = callResult m revision index request answer
 
   abbrev judged : Verdict
-  judged = verdict (callChecks d area revision index request answer)
+  judged = verdict (callChecks m revision index request answer)
 
   -- the row's function makes the call, and the row has its answer's length
   settled : {o : Outcome} {v : Verdict} {device : Device} {n : ℕ} {area′ answer′ : List ℕ} (w : Verdict)
       → v ≡ judged → v ≡ w → o ≡ given device v n
-      → Promised (outcome w d area (callOf (row .function) revision request) (row .answer) answer) (given device w n) area′ answer′
+      → Promised (outcome w m (callOf (row .function) revision request) (row .answer) answer) (given device w n) area′ answer′
       → Promised result o area′ answer′
   unfolding callResult
   settled {o} {v} {device} {n} {area′} {answer′} w j e k p =
       subst (λ (x : Outcome). Promised result x area′ answer′) (sym (k ∙ ap (λ (x : Verdict). given device x n) e))
-      (subst (λ (x : Verdict). Promised (outcome x d area (callOf (rowOf index .function) revision request) (rowOf index .answer) answer) (given device w n) area′ answer′) (sym e ∙ j)
-      (subst (λ (r : Row). Promised (outcome w d area (callOf (r .function) revision request) (r .answer) answer) (given device w n) area′ answer′) looked-up p))
+      (subst (λ (x : Verdict). Promised (outcome x m (callIn revision index request) (rowOf index .answer) answer) (given device w n) area′ answer′) (sym e ∙ j)
+      (subst (λ (r : Row). Promised (outcome w m (callOf (r .function) revision request) (r .answer) answer) (given device w n) area′ answer′) looked-up p))
 
   pub as-accepted : {o : Outcome} {v : Verdict} {device : Device} {area′ answer′ : List ℕ}
       → v ≡ judged → v ≡ Accepted → o ≡ given device v (row .answer)
-      → device ≡ change d (callOf (row .function) revision request)
-      → area′ ≡ changeArea (callOf (row .function) revision request) area
-      → answer′ ≡ answerAfter (acceptedAnswer d (callOf (row .function) revision request)) answer
+      → moduleOf device area′ ≡ change m (callOf (row .function) revision request)
+      → answer′ ≡ answerAfter (acceptedAnswer m (callOf (row .function) revision request)) answer
       → Promised result o area′ answer′
-  as-accepted j e k f g h = settled Accepted j e k (record { reply-is = refl; device-is = f; area-is = g; answer-is = h })
+  as-accepted j e k f g =
+      settled Accepted j e k
+      (record { reply-is = refl; device-is = ap (λ (x : Module). x .device) f; area-is = ap (λ (x : Module). x .area) f; answer-is = g })
 
-  pub as-R : {o : Outcome} {v : Verdict} (number : ℕ) → v ≡ judged → v ≡ Refused (R number) → o ≡ given d v 0 → Promised result o area answer
+  pub as-R : {o : Outcome} {v : Verdict} (number : ℕ) → v ≡ judged → v ≡ Refused (R number) → o ≡ given (m .device) v 0 → Promised result o (m .area) answer
   as-R number j e k =
       settled (Refused (R number)) j e k (record { reply-is = refl; device-is = refl; area-is = refl; answer-is = refl })
 
   pub as-status : {o : Outcome} {v : Verdict} {device : Device} {answer′ : List ℕ} (status ext n : ℕ)
       → v ≡ judged → v ≡ Refused (Status status ext) → o ≡ given device v n → n ≡ statusLength status (row .answer)
-      → device ≡ recordLeft status d
+      → device ≡ recordLeft status (m .device)
       → answer′ ≡ answerAfter (statusBytes status ext ++ zeros (n - 4)) answer
-      → Promised result o area answer′
+      → Promised result o (m .area) answer′
   as-status status ext n j e k l f g =
       settled (Refused (Status status ext)) j e k
       (record {
@@ -72,22 +74,22 @@ module _ (d : Device) (area : List ℕ) (revision index : ℕ) (request answer :
       })
 
   -- what holds where no R number was given
-  pub room : (v : Verdict) → judged ≡ v → NoR v → 64 ≤ length answer
-  room v e n = call-through d area answer (servedCheck revision index ∷ lengthCheck index request ∷ checks d (callOf (rowOf index .function) revision request)) v e n .0
+  pub room : (v : Verdict) → judged ≡ v → NoR v → answerRoom ≤ length answer
+  room v e n = call-passed m answer (servedCheck revision index ∷ lengthCheck index request ∷ checks m (callIn revision index request)) v e n .0
 
-  pub sound : (v : Verdict) → judged ≡ v → NoR v → Sound d area
-  sound v e n = call-through d area answer (servedCheck revision index ∷ lengthCheck index request ∷ checks d (callOf (rowOf index .function) revision request)) v e n .1 .0
+  pub event-checks : (v : Verdict) → judged ≡ v → NoR v → EventPassed m
+  event-checks v e n = call-passed m answer (servedCheck revision index ∷ lengthCheck index request ∷ checks m (callIn revision index request)) v e n .1 .0
 
   -- an accepted call: its request has the bytes that it reads, and its own checks have passed
   pub fits : judged ≡ Accepted → Fitting (row .function) (length request)
   fits e =
       subst (λ (r : Row). Fitting (r .function) (length request)) (sym looked-up)
-      (gate-fits d area revision index request answer (both-accepted (gateChecks d area revision index request answer) _ e .0))
+      (gate-fits m revision index request answer (both-accepted (gateChecks m revision index request answer) _ e .0))
 
-  pub own-checks : judged ≡ Accepted → verdict (checks d (callOf (row .function) revision request)) ≡ Accepted
+  pub own-checks : judged ≡ Accepted → verdict (checks m (callOf (row .function) revision request)) ≡ Accepted
   own-checks e =
-      ap (λ (r : Row). verdict (checks d (callOf (r .function) revision request))) looked-up
-      ∙ both-accepted (gateChecks d area revision index request answer) (checks d (callOf (rowOf index .function) revision request)) e .1
+      ap (λ (r : Row). verdict (checks m (callOf (r .function) revision request))) looked-up
+      ∙ both-accepted (gateChecks m revision index request answer) (checks m (callIn revision index request)) e .1
 
   -- an answer with a status has 4 to 44 bytes
   pub status-fits : (status : ℕ) → (4 ≤ statusLength status (row .answer)) × (statusLength status (row .answer) ≤ 44)
@@ -97,21 +99,24 @@ module _ (d : Device) (area : List ℕ) (revision index : ℕ) (request answer :
       go true h = (lit≤ tt, lit≤ tt)
       go false h = h
 
--- a tick or a power cycle
-module _ (changed d : Device) (area : List ℕ) where
-  happens : {o : Outcome} {v : Verdict} {device : Device} (w : Verdict)
-      → v ≡ verdict (eventChecks d area) → v ≡ w → o ≡ given device v 0
-      → Promised (happened w changed d area) (given device w 0) area []
-      → Promised (happened (verdict (eventChecks d area)) changed d area) o area []
-  happens {o} {v} {device} w j e k p =
-      subst (λ (x : Outcome). Promised (happened (verdict (eventChecks d area)) changed d area) x area []) (sym (k ∙ ap (λ (x : Verdict). given device x 0) e))
-      (subst (λ (x : Verdict). Promised (happened x changed d area) (given device w 0) area []) (sym e ∙ j) p)
+-- a tick or a power cycle, which leaves the area
+module _ (m : Module) (changed : Device) where
+  abbrev came : Result
+  came = happened (verdict (eventChecks m)) (m with-device changed) m
 
-  pub as-changed : {o : Outcome} {v : Verdict} {device : Device} → v ≡ verdict (eventChecks d area) → v ≡ Accepted → o ≡ given device v 0 → device ≡ changed
-      → Promised (happened (verdict (eventChecks d area)) changed d area) o area []
+  happens : {o : Outcome} {v : Verdict} {device : Device} (w : Verdict)
+      → v ≡ verdict (eventChecks m) → v ≡ w → o ≡ given device v 0
+      → Promised (happened w (m with-device changed) m) (given device w 0) (m .area) []
+      → Promised came o (m .area) []
+  happens {o} {v} {device} w j e k p =
+      subst (λ (x : Outcome). Promised came x (m .area) []) (sym (k ∙ ap (λ (x : Verdict). given device x 0) e))
+      (subst (λ (x : Verdict). Promised (happened x (m with-device changed) m) (given device w 0) (m .area) []) (sym e ∙ j) p)
+
+  pub as-changed : {o : Outcome} {v : Verdict} {device : Device} → v ≡ verdict (eventChecks m) → v ≡ Accepted → o ≡ given device v 0 → device ≡ changed
+      → Promised came o (m .area) []
   as-changed j e k f = happens Accepted j e k (record { reply-is = refl; device-is = f; area-is = refl; answer-is = refl })
 
-  pub as-left : {o : Outcome} {v : Verdict} (refusal : Refusal) → v ≡ verdict (eventChecks d area) → v ≡ Refused refusal → o ≡ given d v 0
-      → Promised (happened (verdict (eventChecks d area)) changed d area) o area []
+  pub as-left : {o : Outcome} {v : Verdict} (refusal : Refusal) → v ≡ verdict (eventChecks m) → v ≡ Refused refusal → o ≡ given (m .device) v 0
+      → Promised came o (m .area) []
   as-left refusal j e k =
       happens (Refused refusal) j e k (record { reply-is = refl; device-is = refl; area-is = refl; answer-is = refl })

@@ -8,6 +8,6 @@ use Rattle.module.specs.declared.Outcome.{Outcome}
 
 pub record Promised (result : Result) (outcome : Outcome) (area answer : List ℕ) : Type 0 where
   pub reply-is : outcome .reply ≡ result .reply
-  pub device-is : outcome .device ≡ result .device
-  pub area-is : area ≡ result .area
+  pub device-is : outcome .device ≡ result .after .device
+  pub area-is : area ≡ result .after .area
   pub answer-is : answer ≡ result .answer

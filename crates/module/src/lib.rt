@@ -1,7 +1,7 @@
 // The module: one call, tick or power cycle on a device record and a lent staging area. These are the entry points; none asks anything of its caller.
 ghost use mathlib.Core.Path.{_≡_};
 ghost use mathlib.Core.List.{[]};
-ghost use Rattle.rules.specs.Record.{fresh};
+ghost use Rattle.rules.specs.Record.{fresh, moduleOf};
 ghost use Rattle.rules.specs.Module.{callResult, tickResult, powerResult};
 ghost use Rattle.module.specs.Promise.{Promised};
 use rules::Device;
@@ -30,7 +30,7 @@ pub fn call(
     request: &[u8],
     answer: &mut [u8],
 ) -> Outcome
-    ensures { λ r. ⌜ Promised (callResult d (now (area .entry)) revision function (now (request .entry)) (now (answer .entry))) r (now (area .exit)) (now (answer .exit)) ⌝ }
+    ensures { λ r. ⌜ Promised (callResult (moduleOf d (now (area .entry))) revision function (now (request .entry)) (now (answer .entry))) r (now (area .exit)) (now (answer .exit)) ⌝ }
 {
     let row = call_table::look_up(function);
     let verdict = call_checks::judge(d, area, revision, function, row, request, answer);
@@ -62,7 +62,7 @@ fn result(device: Device, verdict: Verdict, length: usize) -> Outcome
 }
 
 pub fn tick(d: Device, area: &[u8]) -> Outcome
-    ensures { λ r. ⌜ Promised (tickResult d (now (area .entry))) r (now (area .entry)) [] ⌝ }
+    ensures { λ r. ⌜ Promised (tickResult (moduleOf d (now (area .entry)))) r (now (area .entry)) [] ⌝ }
 {
     let verdict = device_record::judge_event(d, area);
     match verdict {
@@ -76,7 +76,7 @@ pub fn tick(d: Device, area: &[u8]) -> Outcome
 }
 
 pub fn power(d: Device, area: &[u8]) -> Outcome
-    ensures { λ r. ⌜ Promised (powerResult d (now (area .entry))) r (now (area .entry)) [] ⌝ }
+    ensures { λ r. ⌜ Promised (powerResult (moduleOf d (now (area .entry)))) r (now (area .entry)) [] ⌝ }
 {
     let verdict = device_record::judge_event(d, area);
     match verdict {

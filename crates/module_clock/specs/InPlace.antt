@@ -1,13 +1,12 @@
--- What a tick in place promises: the reply, and the record behind the reference, are those that the tick's definition gives the record as it was. So
+-- What a tick in place promises: the reply, and the record behind the reference, are those that the tick's definition gives the module as it was. So
 -- an R number (an area of another length, an impossible record) leaves the record as it was.
 -- Assumes nothing.
 use mathlib.Core.Path.{_≡_}
-use mathlib.Core.List.{List}
-use Prim.Native.Nat.{ℕ}
+use Rattle.rules.specs.Record.{Module}
 use Rattle.rules.specs.Module.{tickResult}
 use Rattle.rules.specs.declared.Device.{Device}
 use Rattle.rules.specs.declared.Reply.{Reply}
 
-pub record TickedInPlace (before : Device) (area : List ℕ) (reply : Reply) (after : Device) : Type 0 where
-  pub reply-is : reply ≡ tickResult before area .reply
-  pub device-is : after ≡ tickResult before area .device
+pub record TickedInPlace (before : Module) (reply : Reply) (after : Device) : Type 0 where
+  pub reply-is : reply ≡ tickResult before .reply
+  pub device-is : after ≡ tickResult before .after .device

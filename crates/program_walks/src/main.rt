@@ -1,6 +1,7 @@
 // Tries the two places that are proved by walks: a reader walks a log, and a tick changes a record in place. What it must write, in the file stdout, was
 // written by hand from document 01.
 ghost use mathlib.Core.Path.{_≡_};
+ghost use Rattle.rules.specs.Record.{moduleOf};
 ghost use Rattle.module_clock.specs.InPlace.{TickedInPlace};
 ghost use Rattle.log_reader.specs.Reader.{stoodAt};
 use log_reader::Found;
@@ -97,7 +98,7 @@ fn verifying(ticks: u8) -> Device {
 
 // The caller's side of a tick in place: a record of its own is lent, ticked, and read again.
 fn tick_mine(d: Device, area: &[u8]) -> Outcome
-    ensures { λ r. ⌜ TickedInPlace d (now (area .entry)) (r .reply) (r .device) ⌝ }
+    ensures { λ r. ⌜ TickedInPlace (moduleOf d (now (area .entry))) (r .reply) (r .device) ⌝ }
 {
     let mut mine = d;
     let reply = module_clock::tick_in_place(&mut mine, area);

@@ -7,7 +7,7 @@ use native.Mathlib.Nat.{add-zero, add-suc, add-mul, add-assoc}
 use native.Mathlib.Omega.{arith}
 use lib.ListN.{length, take, drop, length-drop}
 use lib.Seq.{drop-at, drop-drop, take-append-le, drop-append-le}
-use Rattle.rules.specs.Module.{Module}
+use Rattle.rules.specs.Record.{Module}
 use Rattle.rules.specs.Log.{recordAt}
 use Rattle.rules.specs.Replay.{recordLine, recordPlayed, recordLines, moduleAfter}
 

@@ -3,17 +3,18 @@
 use mathlib.Core.List.{List}
 use Prim.Native.Nat.{ℕ, zero, suc}
 use lib.ListN.{length-replicate}
+use Rattle.rules.specs.Numbers.{areaSize}
 use Rattle.rules.specs.Log.{recordAt}
 use Rattle.rules.specs.Replay.{replayStart, moduleAfter}
-use Rattle.rules.proofs.NoR.{NoR}
-use Rattle.rules.proofs.Possible.{possible-fresh}
+use Rattle.rules.proofs.page.Past.{NoR, EventPassed}
+use Rattle.rules.proofs.page.Possible.{possible-fresh}
 use Rattle.replay_play.specs.Verdicts.{recordVerdict}
-use Rattle.replay_play.proofs.NoR.{SoundModule, no-R}
+use Rattle.replay_play.proofs.NoR.{no-R}
 
-start-sound : SoundModule replayStart
-start-sound = record { whole = length-replicate {A = ℕ} 16384 0; sound = possible-fresh }
+start-sound : EventPassed replayStart
+start-sound = record { whole = length-replicate {A = ℕ} areaSize 0; sound = possible-fresh }
 
-after-sound : (log : List ℕ) (j : ℕ) → SoundModule (moduleAfter replayStart log j)
+after-sound : (log : List ℕ) (j : ℕ) → EventPassed (moduleAfter replayStart log j)
 unfolding moduleAfter
 after-sound log zero = start-sound
 after-sound log (suc j) = no-R (moduleAfter replayStart log j) (recordAt log j) (after-sound log j) .0

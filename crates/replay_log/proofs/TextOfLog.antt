@@ -7,7 +7,7 @@ use Prim.Native.Nat.{ℕ, _+_, _*_, _%_, _<_}
 use native.Mathlib.Omega.{arith}
 use lib.ListN.{length, length-append}
 use Rattle.rules.specs.Tests.{_=?_}
-use Rattle.rules.specs.Module.{Module}
+use Rattle.rules.specs.Record.{Module}
 use Rattle.rules.specs.Log.{recordsIn, shortTail}
 use Rattle.rules.specs.Replay.{replayStart, recordLines, moduleAfter, heading, tailLine, lastLine, replayText}
 use Rattle.replay_log.specs.InParts.{logOf, Whole, recordsOver, moduleOver, linesOver, textOver}

@@ -3,7 +3,7 @@
 use mathlib.Core.Bool.{true}
 use mathlib.Core.List.{List, []}
 use Prim.Native.Nat.{ℕ}
-use Rattle.rules.specs.Module.{Module}
+use Rattle.rules.specs.Record.{Module}
 use Rattle.rules.specs.Log.{requestIn, recordsIn, recordAt}
 use Rattle.rules.specs.Replay.{entryLine, recordLines, moduleAfter, tailLine}
 use Rattle.rules.specs.Replay as Replay

@@ -4,12 +4,13 @@ ghost use Prim.Native.Nat.{_+_, _*_, _^_, _≤_, _<_};
 ghost use lib.ListN.{length};
 ghost use Rattle.rules.specs.Numbers.{answerRoom};
 ghost use Rattle.text.specs.Wrote.{lineRoom};
+ghost use Rattle.rules.specs.Record.{moduleOf};
 ghost use Rattle.rules.specs.Log.{recordsIn};
-ghost use Rattle.replay_play.specs.Replayed.{moduleOf};
 ghost use Rattle.replay_log.specs.Places.{PlaceReplayed, PartReplayed};
 use log_reader::Found;
 use replay_play::Played;
 use rules::Device;
+use rules::LOG_RECORD;
 
 // What the reader finds at a place of a log is played, and its line is written: a record's, a short tail's, or none at the end.
 pub fn play_at(
@@ -31,8 +32,8 @@ pub fn play_at(
     let found = stood.found;
     match found {
         Found::Record(entry) => {
-            let start = place * 544;
-            let end = start + 544;
+            let start = place * LOG_RECORD;
+            let end = start + LOG_RECORD;
             replay_play::play_entry(out, at, number, d, area, answer, entry, &log[start..end])
         }
         Found::Short => {
@@ -61,7 +62,7 @@ pub fn put_lines(
     ensures { λ r. ⌜ r .at ≤ recordsIn (now (part .entry)) * lineRoom ⌝ }
     ensures { λ r. ⌜ PartReplayed number (moduleOf d (now (area .entry))) (now (part .entry)) (now (out .entry)) (now (out .exit)) (now (area .exit)) r ⌝ }
 {
-    let count = part.len() / 544;
+    let count = part.len() / LOG_RECORD;
     let mut played = Played { at: 0, device: d };
     let mut j = 0;
     while j < count {

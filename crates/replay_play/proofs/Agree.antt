@@ -3,7 +3,7 @@
 use mathlib.Core.Path.{_≡_, sym, _∙_, ap}
 use mathlib.Core.List.{List}
 use Prim.Native.Nat.{ℕ}
-use Rattle.rules.specs.Module.{Module}
+use Rattle.rules.specs.Record.{Module}
 use Rattle.text.proofs.Agree as text
 use Rattle.replay_play.specs.declared.Played.{Played}
 use Rattle.replay_play.specs.Replayed.{Replayed}

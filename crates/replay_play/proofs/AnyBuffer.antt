@@ -1,4 +1,4 @@
--- What an answer buffer holds plays no part in a call's reply, record and area: only its length does.
+-- What an answer buffer holds plays no part in a call's reply and in the module after it: only its length does.
 -- Assumes nothing.
 use mathlib.Core.Path.{_≡_, refl, ap, subst}
 use mathlib.Core.List.{List, _∷_, _++_}
@@ -6,36 +6,35 @@ use Prim.Native.Nat.{ℕ}
 use lib.ListN.{length}
 use Rattle.rules.specs.Tests.{_<?_}
 use Rattle.rules.specs.Numbers.{answerRoom}
+use Rattle.rules.specs.Record.{Module}
 use Rattle.rules.specs.Refusals.{_gives_, verdict, eventChecks}
 use Rattle.rules.specs.Table.{rowOf, servedCheck, lengthCheck}
-use Rattle.rules.specs.Module.{Result, Call, callOf, checks, outcome, callResult}
+use Rattle.rules.specs.Module.{Result, Call, callIn, checks, outcome, callResult}
 use Rattle.rules.specs.declared.Refusal.the-variants.{R, Status}
 use Rattle.rules.specs.declared.Verdict.{Verdict}
 use Rattle.rules.specs.declared.Verdict.the-variants.{Accepted, Refused}
-use Rattle.rules.specs.declared.Device.{Device}
 
 -- two results that differ in the answer buffer alone
 pub record Alike (x y : Result) : Type 0 where
   pub reply-is : x .reply ≡ y .reply
-  pub device-is : x .device ≡ y .device
-  pub area-is : x .area ≡ y .area
+  pub after-is : x .after ≡ y .after
 
-module _ (d : Device) (area : List ℕ) (revision index : ℕ) (request a b : List ℕ) where
+module _ (m : Module) (revision index : ℕ) (request a b : List ℕ) where
   abbrev made : Call
-  made = callOf (rowOf index .function) revision request
+  made = callIn revision index request
 
   -- the verdict on a call whose answer buffer has so much room
   abbrev judged : (room : ℕ) → Verdict
   judged room =
-      verdict ((room <? answerRoom gives R 1) ∷ eventChecks d area ++ (servedCheck revision index ∷ lengthCheck index request ∷ checks d made))
+      verdict ((room <? answerRoom gives R 1) ∷ eventChecks m ++ (servedCheck revision index ∷ lengthCheck index request ∷ checks m made))
 
-  alike : (v : Verdict) → Alike (outcome v d area made (rowOf index .answer) a) (outcome v d area made (rowOf index .answer) b)
-  alike Accepted = record { reply-is = refl; device-is = refl; area-is = refl }
-  alike (Refused (R number)) = record { reply-is = refl; device-is = refl; area-is = refl }
-  alike (Refused (Status status ext)) = record { reply-is = refl; device-is = refl; area-is = refl }
+  alike : (v : Verdict) → Alike (outcome v m made (rowOf index .answer) a) (outcome v m made (rowOf index .answer) b)
+  alike Accepted = record { reply-is = refl; after-is = refl }
+  alike (Refused (R number)) = record { reply-is = refl; after-is = refl }
+  alike (Refused (Status status ext)) = record { reply-is = refl; after-is = refl }
 
-  pub any-buffer : length a ≡ length b → Alike (callResult d area revision index request a) (callResult d area revision index request b)
+  pub any-buffer : length a ≡ length b → Alike (callResult m revision index request a) (callResult m revision index request b)
   unfolding callResult
   any-buffer same =
-      subst (λ (v : Verdict). Alike (outcome (judged (length a)) d area made (rowOf index .answer) a) (outcome v d area made (rowOf index .answer) b)) (ap judged same)
+      subst (λ (v : Verdict). Alike (outcome (judged (length a)) m made (rowOf index .answer) a) (outcome v m made (rowOf index .answer) b)) (ap judged same)
       (alike (judged (length a)))

@@ -5,7 +5,9 @@ use mathlib.Core.Bool.{false, true≢false}
 use mathlib.Core.List.{List}
 use Prim.Native.Nat.{ℕ}
 use Rattle.rules.specs.Bytes.{zeros}
-use Rattle.rules.specs.Module.{Module, Event, call, tick, power, step}
+use Rattle.rules.specs.Numbers.{answerRoom}
+use Rattle.rules.specs.Record.{Module}
+use Rattle.rules.specs.Module.{Event, call, tick, power, step}
 use Rattle.rules.specs.Log.{entryOf, requestIn}
 use Rattle.rules.specs.Replay.{played, recordPlayed}
 use Rattle.rules.specs.Demand1.{bufferTooShort}
@@ -14,32 +16,28 @@ use Rattle.rules.specs.declared.Verdict.{Verdict}
 use Rattle.rules.specs.declared.Verdict.the-variants.{Accepted, Refused}
 use Rattle.rules.specs.declared.Entry.{Entry}
 use Rattle.rules.specs.declared.Entry.the-variants.{Call, Tick, Power, Bad}
-use Rattle.rules.proofs.NoR.{NoR, Sound}
-use Rattle.rules.proofs.Possible.{possible-next, area-next, only-R1}
+use Rattle.rules.proofs.page.Past.{NoR, EventPassed}
+use Rattle.rules.proofs.page.Possible.{possible-next, area-next, only-R1}
 use Rattle.replay_play.specs.Verdicts.{entryVerdict, recordVerdict}
 
--- a possible record and an area of 16,384 bytes
-abbrev pub SoundModule : Module → Type 0
-SoundModule m = Sound (m .device) (m .area)
-
-event-sound : (m : Module) (event : Event) → bufferTooShort event ≡ false → SoundModule m
-    → Sound (step (m .device) (m .area) event .device) (step (m .device) (m .area) event .area) × NoR (step (m .device) (m .area) event .reply .verdict)
+event-sound : (m : Module) (event : Event) → bufferTooShort event ≡ false → EventPassed m
+    → EventPassed (step m event .after) × NoR (step m event .reply .verdict)
 event-sound m event room s = (
-  record { whole = area-next (m .device) (m .area) event (s .sound) (s .whole); sound = possible-next (m .device) (m .area) event (s .sound) (s .whole) },
-  go (step (m .device) (m .area) event .reply .verdict) refl,
+  record { whole = area-next m event (s .sound) (s .whole); sound = possible-next m event (s .sound) (s .whole) },
+  go (step m event .reply .verdict) refl,
 )
   where
-    go : (v : Verdict) → step (m .device) (m .area) event .reply .verdict ≡ v → NoR v
+    go : (v : Verdict) → step m event .reply .verdict ≡ v → NoR v
     go Accepted e = tt
-    go (Refused (R number)) e = absurd (true≢false (sym (only-R1 (m .device) (m .area) event number (s .sound) (s .whole) e .1) ∙ room))
+    go (Refused (R number)) e = absurd (true≢false (sym (only-R1 m event number (s .sound) (s .whole) e .1) ∙ room))
     go (Refused (Status status ext)) e = tt
 
 -- one log record
-pub no-R : (m : Module) (bytes : List ℕ) → SoundModule m → SoundModule (recordPlayed m bytes) × NoR (recordVerdict m bytes)
+pub no-R : (m : Module) (bytes : List ℕ) → EventPassed m → EventPassed (recordPlayed m bytes) × NoR (recordVerdict m bytes)
 no-R m bytes s = go (entryOf bytes)
   where
-    go : (entry : Entry) → SoundModule (played m entry (requestIn bytes)) × NoR (entryVerdict m entry (requestIn bytes))
-    go (Call host revision index size) = event-sound m (call host revision index (requestIn bytes) (zeros 64)) refl s
+    go : (entry : Entry) → EventPassed (played m entry (requestIn bytes)) × NoR (entryVerdict m entry (requestIn bytes))
+    go (Call host revision index size) = event-sound m (call host revision index (requestIn bytes) (zeros answerRoom)) refl s
     go Tick = event-sound m tick refl s
     go Power = event-sound m power refl s
     go Bad = (s, tt)

@@ -6,7 +6,9 @@ use Prim.Native.Nat.{ℕ, _+_, _-_, _≤_}
 use native.Mathlib.Omega.{arith}
 use lib.ListN.{length, take, drop}
 use Rattle.rules.specs.Bytes.{zeros}
-use Rattle.rules.specs.Module.{Module, Result, after, callResult}
+use Rattle.rules.specs.Numbers.{answerRoom}
+use Rattle.rules.specs.Record.{Module, moduleOf}
+use Rattle.rules.specs.Module.{Result, callResult}
 use Rattle.rules.specs.Log.{entryOf, requestIn}
 use Rattle.rules.specs.Replay.{callLine, replayCall, entryLine, played, recordLine, recordPlayed}
 use Rattle.rules.specs.declared.Entry.{Entry}
@@ -18,7 +20,7 @@ use Rattle.text.proofs.Writing.{rewrote}
 use Rattle.module.specs.Promise.{Promised}
 use Rattle.module.specs.declared.Outcome.{Outcome}
 use Rattle.replay_play.specs.declared.Played.{Played}
-use Rattle.replay_play.specs.Replayed.{Replayed, CallReplayed, moduleOf}
+use Rattle.replay_play.specs.Replayed.{Replayed, CallReplayed}
 use Rattle.replay_play.proofs.AnyBuffer.{any-buffer}
 
 abbrev playedAt : ℕ → Device → Played
@@ -29,21 +31,21 @@ module-path p q = λ i. record { device = p i; area = q i }
 
 -- a tick or a power cycle, whose line needs no reply
 pub event-replayed : {result : Result} {o : Outcome} {text old new area answer : List ℕ} {at next : ℕ}
-    → Promised result o area answer → Wrote old at text new next → Replayed text (after result) old at new area (playedAt next (o .device))
+    → Promised result o area answer → Wrote old at text new next → Replayed text (result .after) old at new area (playedAt next (o .device))
 event-replayed p w = record { wrote = w; module-is = module-path (p .device-is) (p .area-is) }
 
 -- a call, whose answer buffer holds anything
-pub call-replayed : (d : Device) (area : List ℕ) (revision index : ℕ) (request answer : List ℕ) (number : ℕ)
+pub call-replayed : (m : Module) (revision index : ℕ) (request answer : List ℕ) (number : ℕ)
     {o : Outcome} {area′ answer′ old new : List ℕ} {at next : ℕ}
-    → length answer ≡ 64
-    → Promised (callResult d area revision index request answer) o area′ answer′
+    → length answer ≡ answerRoom
+    → Promised (callResult m revision index request answer) o area′ answer′
     → Wrote old at (callLine number index (o .reply)) new next
-    → CallReplayed number index (replayCall (moduleOf d area) revision index request) old at new area′ (playedAt next (o .device))
-call-replayed d area revision index request answer number long p w =
-    let same = any-buffer d area revision index request answer (zeros 64) long in
+    → CallReplayed number index (replayCall m revision index request) old at new area′ (playedAt next (o .device))
+call-replayed m revision index request answer number long p w =
+    let same = any-buffer m revision index request answer (zeros answerRoom) long in
     record {
       wrote = rewrote (ap (callLine number index) (p .reply-is ∙ same .reply-is)) w;
-      module-is = module-path (p .device-is ∙ same .device-is) (p .area-is ∙ same .area-is);
+      module-is = module-path (p .device-is) (p .area-is) ∙ same .after-is;
     }
 
 -- a log record whose entry is known

@@ -3,15 +3,11 @@
 use mathlib.Core.Path.{_≡_}
 use mathlib.Core.List.{List}
 use Prim.Native.Nat.{ℕ}
-use Rattle.rules.specs.Module.{Module, Result, after}
+use Rattle.rules.specs.Record.{Module, moduleOf}
+use Rattle.rules.specs.Module.{Result}
 use Rattle.rules.specs.Replay.{callLine, recordLine, recordPlayed}
-use Rattle.rules.specs.declared.Device.{Device}
 use Rattle.text.specs.Wrote.{Wrote}
 use Rattle.replay_play.specs.declared.Played.{Played}
-
--- a module of this record and this area
-abbrev pub moduleOf : Device → List ℕ → Module
-moduleOf d area = record { device = d; area = area }
 
 -- The text was written over old at a place, and new came of it; the record that is answered and the area as it was left are the module.
 pub record Replayed (text : List ℕ) (m : Module) (old : List ℕ) (at : ℕ) (new area : List ℕ) (played : Played) : Type 0 where
@@ -21,7 +17,7 @@ pub record Replayed (text : List ℕ) (m : Module) (old : List ℕ) (at : ℕ) (
 -- a call that came to this result was played, and its line was written
 abbrev pub CallReplayed : (number index : ℕ) → Result → (old : List ℕ) (at : ℕ) (new area : List ℕ) → Played → Type 0
 CallReplayed number index result old at new area played =
-    Replayed (callLine number index (result .reply)) (after result) old at new area played
+    Replayed (callLine number index (result .reply)) (result .after) old at new area played
 
 -- one record of a log was played, and its line was written
 abbrev pub RecordReplayed : (number : ℕ) → Module → (bytes old : List ℕ) (at : ℕ) (new area : List ℕ) → Played → Type 0

@@ -2,7 +2,8 @@
 -- Assumes nothing.
 use mathlib.Core.List.{List}
 use Prim.Native.Nat.{ℕ}
-use Rattle.rules.specs.Module.{Module, tickResult, powerResult}
+use Rattle.rules.specs.Record.{Module}
+use Rattle.rules.specs.Module.{tickResult, powerResult}
 use Rattle.rules.specs.Log.{entryOf, requestIn}
 use Rattle.rules.specs.Replay.{replayCall}
 use Rattle.rules.specs.declared.Verdict.{Verdict}
@@ -13,8 +14,8 @@ use Rattle.rules.specs.declared.Entry.the-variants.{Call, Tick, Power, Bad}
 -- a bad record plays nothing, so that nothing is refused
 abbrev pub entryVerdict : Module → Entry → (request : List ℕ) → Verdict
 entryVerdict m (Call host revision index size) request = replayCall m revision index request .reply .verdict
-entryVerdict m Tick request = tickResult (m .device) (m .area) .reply .verdict
-entryVerdict m Power request = powerResult (m .device) (m .area) .reply .verdict
+entryVerdict m Tick request = tickResult m .reply .verdict
+entryVerdict m Power request = powerResult m .reply .verdict
 entryVerdict m Bad request = Accepted
 
 abbrev pub recordVerdict : Module → (bytes : List ℕ) → Verdict

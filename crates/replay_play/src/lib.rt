@@ -5,10 +5,11 @@ ghost use lib.ListN.{length};
 ghost use Rattle.rules.specs.Numbers.{answerRoom};
 ghost use Rattle.text.specs.Wrote.{lineRoom};
 ghost use Rattle.rules.specs.Text.{field};
-ghost use Rattle.rules.specs.Module.{after, tickResult, powerResult};
+ghost use Rattle.rules.specs.Record.{moduleOf};
+ghost use Rattle.rules.specs.Module.{tickResult, powerResult};
 ghost use Rattle.rules.specs.Log.{entryOf};
 ghost use Rattle.rules.specs.Replay.{replayCall};
-ghost use Rattle.replay_play.specs.Replayed.{Replayed, CallReplayed, RecordReplayed, moduleOf};
+ghost use Rattle.replay_play.specs.Replayed.{Replayed, CallReplayed, RecordReplayed};
 use rules::Device;
 use rules::Entry;
 
@@ -45,7 +46,7 @@ fn play_call(
 fn play_tick(out: &mut [u8], at: usize, number: u64, d: Device, area: &[u8]) -> Played
     requires { ⌜ at + lineRoom ≤ length (now out) ⌝ }
     ensures { λ r. ⌜ r .at ≤ at + lineRoom ⌝ }
-    ensures { λ r. ⌜ Replayed (field number " tick\n") (after (tickResult d (now (area .entry)))) (now (out .entry)) at (now (out .exit)) (now (area .entry)) r ⌝ }
+    ensures { λ r. ⌜ Replayed (field number " tick\n") (tickResult (moduleOf d (now (area .entry))) .after) (now (out .entry)) at (now (out .exit)) (now (area .entry)) r ⌝ }
 {
     let outcome = module::tick(d, area);
     let ticked = outcome.device;
@@ -59,7 +60,7 @@ fn play_tick(out: &mut [u8], at: usize, number: u64, d: Device, area: &[u8]) -> 
 fn play_power(out: &mut [u8], at: usize, number: u64, d: Device, area: &[u8]) -> Played
     requires { ⌜ at + lineRoom ≤ length (now out) ⌝ }
     ensures { λ r. ⌜ r .at ≤ at + lineRoom ⌝ }
-    ensures { λ r. ⌜ Replayed (field number " power\n") (after (powerResult d (now (area .entry)))) (now (out .entry)) at (now (out .exit)) (now (area .entry)) r ⌝ }
+    ensures { λ r. ⌜ Replayed (field number " power\n") (powerResult (moduleOf d (now (area .entry))) .after) (now (out .entry)) at (now (out .exit)) (now (area .entry)) r ⌝ }
 {
     let outcome = module::power(d, area);
     let started = outcome.device;

@@ -4,7 +4,7 @@ ghost use Prim.Native.Nat.{_+_, _/_, _≤_};
 ghost use mathlib.Core.Path.{_≡_};
 ghost use lib.ListN.{length, take};
 ghost use Rattle.rules.specs.Numbers.{answerRoom};
-ghost use Rattle.replay_play.specs.Replayed.{moduleOf};
+ghost use Rattle.rules.specs.Record.{moduleOf};
 ghost use Rattle.replay_log.specs.Places.{PartReplayed, partPlayed};
 use program_files::Filled;
 use program_files::PART;

@@ -1,4 +1,28 @@
-// The declared types that document 01 speaks of. They carry no code: the rules over them stand in specs/, the theorems in proofs/.
+// The numbers and the types that document 01 speaks of. They carry no code: the rules over them stand in specs/, the theorems in proofs/.
+
+// Numbers of this product, as in specs/Numbers.antt. Staging area 16,384 bytes.
+pub const AREA_SIZE: usize = 16384;
+
+// Longest piece 512.
+pub const LONGEST_PIECE: u32 = 512;
+
+// Answer buffer at least 64.
+pub const ANSWER_ROOM: usize = 64;
+
+// Verification 8 ticks.
+pub const VERIFICATION: u8 = 8;
+
+// Wrong passphrases before the limit: 10.
+pub const ATTEMPT_LIMIT: u8 = 10;
+
+// Context numbers 1 to 4,294,967,295.
+pub const LAST_CONTEXT: u32 = 4294967295;
+
+// The replay program: 544-byte records.
+pub const LOG_RECORD: usize = 544;
+
+// Request length at most 536.
+pub const LONGEST_REQUEST: u16 = 536;
 
 // The device record's phase.
 pub enum Phase {

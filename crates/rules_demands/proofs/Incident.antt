@@ -6,7 +6,7 @@ use mathlib.Core.List.{List, [], _∷_, _++_, map}
 use native.Mathlib.Omega.{arith}
 use lib.ListN.{length, take, drop, replicate, length-replicate}
 use Rattle.rules.specs.Bytes.{le, zeros, zeros?}
-use Rattle.rules.specs.Numbers.{areaSize}
+use Rattle.rules.specs.Numbers.{areaSize, answerRoom}
 use Rattle.rules.specs.Record.{phaseNumber, possible, possibleTransfer, possibleSecurity, possibleThresholds, Module}
 use Rattle.rules.specs.Refusals.{verdict}
 use Rattle.rules.specs.Table.{rowOf, fits?}
@@ -29,7 +29,7 @@ laptop = 2
 
 -- each host lends a buffer of its own
 abbrev ask : (host index : ℕ) (request : List ℕ) → Event
-ask host index request = call host 2 index request (replicate (64 + host) host)
+ask host index request = call host 2 index request (replicate (answerRoom + host) host)
 
 abbrev start : (host : ℕ) → Event
 start host = ask host 13 []

@@ -25,7 +25,8 @@ returns : tie.Need-returns
 returns c =
     let k = c .before .before .before .before .before .before .before .before .before .before .before .before .before in
     let w = c .before .before .write2 in
-    settled _ (k .args .outcome .reply) (k .args .outcome .device) (k .args .bytes .now) (c .before .before .before .before .before .before .before .before .before .verdict .given .1 ∙ ap Refused (c .before .before .before .before .before .before .reason2 .given .1)) (passed-on (w .ok) (w .ensures .0))
+    settled _ (k .args .outcome .reply) (k .args .outcome .device) (k .args .bytes .now) (c .before .before .before .before .before .before .before .before .before .verdict .given .1 ∙ ap Refused (c .before .before .before .before .before .before .reason2 .given .1))
+    (passed-on (w .ok) (w .ensures .0))
     (counted (c .before .before .before .before .before .before .reason2 .given .0 .0) (c .before .before .before .before .before .before .reason2 .given .0 .1 .0) (k .args .outcome .device) (k .args .bytes .now) (c .before .before .before .before .if1 .taken) (w .ensures .1))
 
 returns-2 : tie.Need-returns-2

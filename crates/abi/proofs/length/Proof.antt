@@ -1,4 +1,4 @@
--- `abi::length` meets its contract. A length of at most 64 stays as it is (proofs/Numbers.antt).
+-- `abi::length` meets its contract. A length within the answer buffer stays as it is (proofs/Numbers.antt).
 -- Assumes nothing.
 use Rattle.abi.proofs.Numbers.{as-length}
 use borrow.Author.Needs.{needs}

@@ -3,6 +3,7 @@
 use Rattle.abi.proofs.Numbers.{passed-on}
 use Rattle.device_encode.specs.Encoding.{decodeOf}
 use Rattle.rules.specs.declared.Device.{Device}
+use Rattle.rules.specs.Record.{moduleOf}
 use Rattle.rules.specs.Module.{callResult}
 use Rattle.abi.proofs.Kept.{call-keepable, of-decoded, called}
 use borrow.Author.Needs.{needs}
@@ -13,14 +14,16 @@ keep-requires : tie.Need-keep-requires
 keep-requires c κs =
     let a = c .before .before .before .before .before .before .before .before .before .before .before .before .before .before .args in
     call-keepable (a .bytes .now) (a .area .now) (a .revision) (a .function) (a .request .now) (a .answer .now)
-    (of-decoded (λ (d : Device). callResult d (a .area .now) (a .revision) (a .function) (a .request .now) (a .answer .now)) (c .before .before .before .before .before .before .before .before .decode .ensures) (c .before .before .before .before .before .call .ensures))
+    (of-decoded (λ (d : Device). callResult (moduleOf d (a .area .now)) (a .revision) (a .function) (a .request .now) (a .answer .now))
+    (c .before .before .before .before .before .before .before .before .decode .ensures) (c .before .before .before .before .before .call .ensures))
 
 returns : tie.Need-returns
 returns c =
     let a = c .before .before .before .before .before .before .before .before .before .before .before .before .before .before .before .before .before .args in
     let k = c .before .before .keep in
-    called (callResult (decodeOf (a .bytes .now)) (a .area .now) (a .revision) (a .function) (a .request .now) (a .answer .now)) (a .bytes .now)
-    (of-decoded (λ (d : Device). callResult d (a .area .now) (a .revision) (a .function) (a .request .now) (a .answer .now)) (c .before .before .before .before .before .before .before .before .before .before .before .decode .ensures) (c .before .before .before .before .before .before .before .before .call .ensures))
+    called (callResult (moduleOf (decodeOf (a .bytes .now)) (a .area .now)) (a .revision) (a .function) (a .request .now) (a .answer .now)) (a .bytes .now)
+    (of-decoded (λ (d : Device). callResult (moduleOf d (a .area .now)) (a .revision) (a .function) (a .request .now) (a .answer .now))
+    (c .before .before .before .before .before .before .before .before .before .before .before .decode .ensures) (c .before .before .before .before .before .before .before .before .call .ensures))
     (passed-on (k .ok) (k .ensures .0), k .ensures .1)
 
 -- by search: decode-requires, call-requires, same-length, same-length-2, same-length-3

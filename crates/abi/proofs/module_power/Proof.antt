@@ -3,6 +3,7 @@
 use Rattle.abi.proofs.Numbers.{passed-on}
 use Rattle.device_encode.specs.Encoding.{decodeOf}
 use Rattle.rules.specs.declared.Device.{Device}
+use Rattle.rules.specs.Record.{moduleOf}
 use Rattle.rules.specs.Module.{powerResult}
 use Rattle.abi.proofs.Kept.{event-keepable, of-decoded, occurred}
 use borrow.Author.Needs.{needs}
@@ -13,14 +14,14 @@ keep-requires : tie.Need-keep-requires
 unfolding powerResult
 keep-requires c κs =
     let a = c .before .before .before .before .before .before .args in
-    event-keepable (a .bytes .now) (a .area .now) _ (of-decoded (λ (d : Device). powerResult d (a .area .now)) (c .before .before .decode .ensures) (c .before .power .ensures))
+    event-keepable (a .bytes .now) (a .area .now) _ (of-decoded (λ (d : Device). powerResult (moduleOf d (a .area .now))) (c .before .before .decode .ensures) (c .before .power .ensures))
 
 returns : tie.Need-returns
 returns c =
     let a = c .before .before .before .before .before .before .before .before .before .args in
     let k = c .before .before .keep in
-    occurred (powerResult (decodeOf (a .bytes .now)) (a .area .now)) (a .bytes .now)
-    (of-decoded (λ (d : Device). powerResult d (a .area .now)) (c .before .before .before .before .before .decode .ensures) (c .before .before .before .before .power .ensures))
+    occurred (powerResult (moduleOf (decodeOf (a .bytes .now)) (a .area .now))) (a .bytes .now)
+    (of-decoded (λ (d : Device). powerResult (moduleOf d (a .area .now))) (c .before .before .before .before .before .decode .ensures) (c .before .before .before .before .power .ensures))
     (passed-on (k .ok) (k .ensures .0), k .ensures .1)
 
 -- by search: decode-requires, power-requires, same-length

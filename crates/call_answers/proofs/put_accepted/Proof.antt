@@ -3,15 +3,16 @@
 use mathlib.Core.Path.{_∙_, ap}
 use Prim.Native.Nat.{ℕ}
 use Rattle.rules.specs.Bytes.{le, splice}
-use Rattle.rules.proofs.Told.{answered}
+use Rattle.rules.specs.Record.{moduleOf}
+use Rattle.rules.proofs.page.Told.{answered}
 use borrow.Author.Needs.{needs}
 use Rattle.call_answers.proofs.put_accepted.Statement.{statement}
 use Rattle.call_answers.proofs.put_accepted.Tie as tie
 
 returns : tie.Need-returns
-returns c = λ request.
+returns c = λ area request.
     let a = c .before .before .before .before .before .before .before .before .args in
-    answered (a .d) (a .revision) request (a .answer .now) (c .before .before .before .before .before .enum-told .given .1)
+    answered (moduleOf (a .d) area) (a .revision) request (a .answer .now) (c .before .before .before .before .before .enum-told .given .1)
     (c .before .before .put-at .ensures ∙ ap (λ (n : ℕ). splice 0 (le 4 n) (a .answer .now)) (c .before .before .before .mask .ensures))
 
 -- One line for each arm: the answer is that of the function that the arm names. What the search closes: the arm's tag, each callee's room, and the buffer's length.
@@ -52,28 +53,28 @@ put-accepted-spec =
     (λ c. search needs)
     returns
     (λ c. search needs)
-    (λ c request. answered _ _ request _ (c .before .before .before .before .enum-told2 .given .1) (c .before .before .put-answer .ensures))
+    (λ c area request. answered (moduleOf _ area) _ request _ (c .before .before .before .before .enum-told2 .given .1) (c .before .before .put-answer .ensures))
     (λ c. search needs)
-    (λ c request. answered _ _ request _ (c .before .before .before .before .enum-told3 .given .1) (c .before .before .put-info .ensures))
+    (λ c area request. answered (moduleOf _ area) _ request _ (c .before .before .before .before .enum-told3 .given .1) (c .before .before .put-info .ensures))
     (λ c. search needs)
-    (λ c request. answered _ _ request _ (c .before .before .before .before .enum-told4 .given .1) (c .before .before .put-started .ensures))
+    (λ c area request. answered (moduleOf _ area) _ request _ (c .before .before .before .before .enum-told4 .given .1) (c .before .before .put-started .ensures))
     (λ c. search needs)
-    (λ c request. answered _ _ request _ (c .before .before .before .before .enum-told5 .given .1) (c .before .before .put-status .ensures))
+    (λ c area request. answered (moduleOf _ area) _ request _ (c .before .before .before .before .enum-told5 .given .1) (c .before .before .put-status .ensures))
     (λ c. search needs)
-    (λ c request. answered _ _ request _ (c .before .before .before .before .enum-told6 .given .1) (c .before .before .put-status2 .ensures))
+    (λ c area request. answered (moduleOf _ area) _ request _ (c .before .before .before .before .enum-told6 .given .1) (c .before .before .put-status2 .ensures))
     (λ c. search needs)
-    (λ c request. answered _ _ request _ (c .before .before .before .before .enum-told7 .given .1) (c .before .before .put-queried .ensures))
+    (λ c area request. answered (moduleOf _ area) _ request _ (c .before .before .before .before .enum-told7 .given .1) (c .before .before .put-queried .ensures))
     (λ c. search needs)
-    (λ c request. answered _ _ request _ (c .before .before .before .before .enum-told8 .given .1) (c .before .before .put-status3 .ensures))
+    (λ c area request. answered (moduleOf _ area) _ request _ (c .before .before .before .before .enum-told8 .given .1) (c .before .before .put-status3 .ensures))
     (λ c. search needs)
-    (λ c request. answered _ _ request _ (c .before .before .before .before .enum-told9 .given .1) (c .before .before .put-state .ensures))
+    (λ c area request. answered (moduleOf _ area) _ request _ (c .before .before .before .before .enum-told9 .given .1) (c .before .before .put-state .ensures))
     (λ c. search needs)
-    (λ c request. answered _ _ request _ (c .before .before .before .before .enum-told10 .given .1) (c .before .before .put-status4 .ensures))
+    (λ c area request. answered (moduleOf _ area) _ request _ (c .before .before .before .before .enum-told10 .given .1) (c .before .before .put-status4 .ensures))
     (λ c. search needs)
-    (λ c request. answered _ _ request _ (c .before .before .before .before .enum-told11 .given .1) (c .before .before .put-status5 .ensures))
+    (λ c area request. answered (moduleOf _ area) _ request _ (c .before .before .before .before .enum-told11 .given .1) (c .before .before .put-status5 .ensures))
     (λ c. search needs)
-    (λ c request. answered _ _ request _ (c .before .before .before .before .enum-told12 .given .1) (c .before .before .put-status6 .ensures))
+    (λ c area request. answered (moduleOf _ area) _ request _ (c .before .before .before .before .enum-told12 .given .1) (c .before .before .put-status6 .ensures))
     (λ c. search needs)
-    (λ c request. answered _ _ request _ (c .before .before .before .before .enum-told13 .given .1) (c .before .before .put-status7 .ensures))
+    (λ c area request. answered (moduleOf _ area) _ request _ (c .before .before .before .before .enum-told13 .given .1) (c .before .before .put-status7 .ensures))
     (λ c. search needs)
-    (λ c request. answered _ _ request _ (c .before .before .before .before .enum-told14 .given .1) (c .before .before .put-status8 .ensures)))
+    (λ c area request. answered (moduleOf _ area) _ request _ (c .before .before .before .before .enum-told14 .given .1) (c .before .before .put-status8 .ensures)))

@@ -2,14 +2,13 @@
 -- Assumes nothing.
 use mathlib.Core.Path.{sym, _∙_, ap, subst}
 use lib.ListN.{length}
+use Rattle.rules.specs.Record.{moduleOf}
 use Rattle.rules.specs.Refusals.{verdict}
 use Rattle.rules.specs.Table.{rowOf}
 use Rattle.rules.specs.Module.{callOf, checks, gateChecks}
 use Rattle.rules.specs.declared.Row.{Row}
-use Rattle.rules.proofs.Fitting.{Fitting}
+use Rattle.rules.proofs.page.Fitting.{Fitting, gate-fits}
 use Rattle.call_checks.proofs.Joined.{stands, decides}
-use Rattle.rules.proofs.Fitting.{gate-fits}
-use mathlib.Core.Path.{sym, _∙_}
 use borrow.Author.Needs.{needs}
 use Rattle.call_checks.proofs.judge.Statement.{statement}
 use Rattle.call_checks.proofs.judge.Tie as tie
@@ -28,21 +27,23 @@ judge-function-requires c κs =
     let k = c .before .before .before .before .before .before in
     let a = k .args in
     subst (λ (r : Row). Fitting (r .function) (length (a .request .now))) (sym (k .pre))
-    (gate-fits (a .d) (a .area .now) (a .revision) (a .index) (a .request .now) (a .answer .now) (sym (c .before .before .judge-gate .ensures) ∙ c .enum-told .given .1))
+    (gate-fits (moduleOf (a .d) (a .area .now)) (a .revision) (a .index) (a .request .now) (a .answer .now) (sym (c .before .before .judge-gate .ensures) ∙ c .enum-told .given .1))
 
 returns : tie.Need-returns
 returns c =
     let a = c .before .before .before .before .before .before .before .args in
-    stands (gateChecks (a .d) (a .area .now) (a .revision) (a .index) (a .request .now) (a .answer .now)) (checks (a .d) (callOf (rowOf (a .index) .function) (a .revision) (a .request .now)))
+    let m = moduleOf (a .d) (a .area .now) in
+    stands (gateChecks m (a .revision) (a .index) (a .request .now) (a .answer .now)) (checks m (callOf (rowOf (a .index) .function) (a .revision) (a .request .now)))
     (sym (c .before .before .before .judge-gate .ensures) ∙ c .before .gate .given .1)
 
 returns-2 : tie.Need-returns-2
 returns-2 c =
     let k = c .before .before .before .before .before .before .before in
     let a = k .args in
-    decides (gateChecks (a .d) (a .area .now) (a .revision) (a .index) (a .request .now) (a .answer .now)) (checks (a .d) (callOf (rowOf (a .index) .function) (a .revision) (a .request .now)))
+    let m = moduleOf (a .d) (a .area .now) in
+    decides (gateChecks m (a .revision) (a .index) (a .request .now) (a .answer .now)) (checks m (callOf (rowOf (a .index) .function) (a .revision) (a .request .now)))
     (sym (c .before .before .before .judge-gate .ensures) ∙ c .before .enum-told .given .1)
-    (c .judge-function .ensures ∙ ap (λ (r : Row). verdict (checks (a .d) (callOf (r .function) (a .revision) (a .request .now)))) (k .pre))
+    (c .judge-function .ensures (a .area .now) ∙ ap (λ (r : Row). verdict (checks m (callOf (r .function) (a .revision) (a .request .now)))) (k .pre))
 
 pub judge-spec : {M : Type 1} → statement M
 judge-spec =

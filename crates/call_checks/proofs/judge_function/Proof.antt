@@ -4,8 +4,9 @@ use mathlib.Core.Path.{refl, sym}
 use native.Mathlib.Omega.{arith}
 use lib.ListN.{length}
 use lib.Seq.{length-take-le}
+use Rattle.rules.specs.Record.{moduleOf}
 use Rattle.rules.specs.Refusals.{verdict}
-use Rattle.rules.proofs.Told.{there, judged}
+use Rattle.rules.proofs.page.Told.{there, judged}
 use borrow.Author.Needs.{needs}
 use Rattle.call_checks.proofs.judge_function.Statement.{statement}
 use Rattle.call_checks.proofs.judge_function.Tie as tie
@@ -33,50 +34,50 @@ slice-aggregate-judge-set-passphrase c =
 
 returns : tie.Need-returns
 unfolding verdict
-returns c = let a = c .before .before .before .args in judged (a .d) (a .revision) (a .request .now) (c .enum-told .given .1) refl
+returns c = λ area. let a = c .before .before .before .args in judged (moduleOf (a .d) area) (a .revision) (a .request .now) (c .enum-told .given .1) refl
 
 returns-2 : tie.Need-returns-2
 unfolding verdict
-returns-2 c = let a = c .before .before .before .args in judged (a .d) (a .revision) (a .request .now) (c .enum-told2 .given .1) refl
+returns-2 c = λ area. let a = c .before .before .before .args in judged (moduleOf (a .d) area) (a .revision) (a .request .now) (c .enum-told2 .given .1) refl
 
 returns-3 : tie.Need-returns-3
 unfolding verdict
-returns-3 c = let a = c .before .before .before .args in judged (a .d) (a .revision) (a .request .now) (c .enum-told3 .given .1) refl
+returns-3 c = λ area. let a = c .before .before .before .args in judged (moduleOf (a .d) area) (a .revision) (a .request .now) (c .enum-told3 .given .1) refl
 
 returns-4 : tie.Need-returns-4
-returns-4 c = let a = c .before .before .before .before .args in judged (a .d) (a .revision) (a .request .now) (c .before .enum-told4 .given .1) (c .judge-start .ensures)
+returns-4 c = λ area. let a = c .before .before .before .before .args in judged (moduleOf (a .d) area) (a .revision) (a .request .now) (c .before .enum-told4 .given .1) (c .judge-start .ensures)
 
 returns-5 : tie.Need-returns-5
-returns-5 c = let a = c .before .before .before .before .args in judged (a .d) (a .revision) (a .request .now) (c .before .enum-told5 .given .1) (c .judge-send .ensures)
+returns-5 c = λ area. let a = c .before .before .before .before .args in judged (moduleOf (a .d) area) (a .revision) (a .request .now) (c .before .enum-told5 .given .1) (c .judge-send .ensures)
 
 returns-6 : tie.Need-returns-6
-returns-6 c = let a = c .before .before .before .before .args in judged (a .d) (a .revision) (a .request .now) (c .before .enum-told6 .given .1) (c .judge-finish .ensures)
+returns-6 c = λ area. let a = c .before .before .before .before .args in judged (moduleOf (a .d) area) (a .revision) (a .request .now) (c .before .enum-told6 .given .1) (c .judge-finish .ensures)
 
 returns-7 : tie.Need-returns-7
-returns-7 c = let a = c .before .before .before .before .args in judged (a .d) (a .revision) (a .request .now) (c .before .enum-told7 .given .1) (c .judge-query .ensures)
+returns-7 c = λ area. let a = c .before .before .before .before .args in judged (moduleOf (a .d) area) (a .revision) (a .request .now) (c .before .enum-told7 .given .1) (c .judge-query .ensures)
 
 returns-8 : tie.Need-returns-8
-returns-8 c = let a = c .before .before .before .before .args in judged (a .d) (a .revision) (a .request .now) (c .before .enum-told8 .given .1) (c .judge-set .ensures)
+returns-8 c = λ area. let a = c .before .before .before .before .args in judged (moduleOf (a .d) area) (a .revision) (a .request .now) (c .before .enum-told8 .given .1) (c .judge-set .ensures)
 
 returns-9 : tie.Need-returns-9
 unfolding verdict
-returns-9 c = let a = c .before .before .before .args in judged (a .d) (a .revision) (a .request .now) (c .enum-told9 .given .1) refl
+returns-9 c = λ area. let a = c .before .before .before .args in judged (moduleOf (a .d) area) (a .revision) (a .request .now) (c .enum-told9 .given .1) refl
 
 returns-10 : tie.Need-returns-10
-returns-10 c = let a = c .before .before .before .before .before .args in judged (a .d) (a .revision) (a .request .now) (c .before .before .enum-told10 .given .1) (c .judge-set-passphrase .ensures)
+returns-10 c = λ area. let a = c .before .before .before .before .before .args in judged (moduleOf (a .d) area) (a .revision) (a .request .now) (c .before .before .enum-told10 .given .1) (c .judge-set-passphrase .ensures)
 
 returns-11 : tie.Need-returns-11
-returns-11 c = let a = c .before .before .before .before .args in judged (a .d) (a .revision) (a .request .now) (c .before .enum-told11 .given .1) (c .judge-disable .ensures)
+returns-11 c = λ area. let a = c .before .before .before .before .args in judged (moduleOf (a .d) area) (a .revision) (a .request .now) (c .before .enum-told11 .given .1) (c .judge-disable .ensures)
 
 returns-12 : tie.Need-returns-12
-returns-12 c = let a = c .before .before .before .before .args in judged (a .d) (a .revision) (a .request .now) (c .before .enum-told12 .given .1) (c .judge-unlock .ensures)
+returns-12 c = λ area. let a = c .before .before .before .before .args in judged (moduleOf (a .d) area) (a .revision) (a .request .now) (c .before .enum-told12 .given .1) (c .judge-unlock .ensures)
 
 returns-13 : tie.Need-returns-13
-returns-13 c = let a = c .before .before .before .before .args in judged (a .d) (a .revision) (a .request .now) (c .before .enum-told13 .given .1) (c .judge-freeze .ensures)
+returns-13 c = λ area. let a = c .before .before .before .before .args in judged (moduleOf (a .d) area) (a .revision) (a .request .now) (c .before .enum-told13 .given .1) (c .judge-freeze .ensures)
 
 returns-14 : tie.Need-returns-14
 unfolding verdict
-returns-14 c = let a = c .before .before .before .args in judged (a .d) (a .revision) (a .request .now) (c .enum-told14 .given .1) refl
+returns-14 c = λ area. let a = c .before .before .before .args in judged (moduleOf (a .d) area) (a .revision) (a .request .now) (c .enum-told14 .given .1) refl
 
 -- by search: enum-told-2, enum-told-3, enum-told-4, judge-start-requires, enum-told-5, enum-told-6, enum-told-7, enum-told-8, enum-told-9,
 -- enum-told-10, judge-set-passphrase-requires, enum-told-11, judge-disable-requires, enum-told-12, judge-unlock-requires, enum-told-13,

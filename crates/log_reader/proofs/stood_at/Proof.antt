@@ -4,7 +4,7 @@ use mathlib.Core.Path.{sym}
 use native.Mathlib.Omega.{arith}
 use borrow.Author.Tests.{eqb-true}
 use Rattle.rules.specs.Log.{recordsIn}
-use Rattle.rules.proofs.Choice.{and-true}
+use Rattle.rules.proofs.page.Choice.{and-true}
 use Rattle.log_reader.proofs.Places.{at-tail, at-end, decoded}
 use borrow.Author.Needs.{needs}
 use Rattle.log_reader.proofs.stood_at.Statement.{statement}

@@ -2,9 +2,10 @@
 -- Assumes nothing.
 use native.Mathlib.Omega.{arith}
 use mathlib.Core.Path.{sym, _∙_, ap}
+use Rattle.rules.specs.Record.{moduleOf}
 use Rattle.rules.specs.declared.Verdict.the-variants.{Accepted, Refused}
-use Rattle.rules.proofs.NoR.{attempts-most}
-use Rattle.module.proofs.Outcomes.{as-accepted, as-R, as-status, room, sound, fits, own-checks, status-fits}
+use Rattle.rules.proofs.page.Past.{attempts-most}
+use Rattle.module.proofs.Outcomes.{as-accepted, as-R, as-status, room, event-checks, fits, own-checks, status-fits}
 use borrow.Author.Needs.{needs}
 use Rattle.module.proofs.call.Statement.{statement}
 use Rattle.module.proofs.call.Tie as tie
@@ -15,58 +16,72 @@ enum-told c = search needs
 put-accepted-requires : tie.Need-put-accepted-requires
 put-accepted-requires c κs =
     let a = c .before .before .before .before .before .before .before .before .before .before .args in
+    let m = moduleOf (a .d) (a .area .now) in
     let row = c .before .before .before .before .before .before .look-up in
     let judged = c .before .before .before .judge .ensures in
-    room (a .d) (a .area .now) (a .revision) (a .function) (a .request .now) (a .answer .now) (row .result) (row .ensures) Accepted (sym judged ∙ c .before .enum-told .given .1) tt
+    room m (a .revision) (a .function) (a .request .now) (a .answer .now) (row .result) (row .ensures) Accepted (sym judged ∙ c .before .enum-told .given .1) tt
 
 change-requires : tie.Need-change-requires
 change-requires c κs =
     let a = c .before .before .before .before .before .before .before .before .before .before .before .before .before .before .args in
+    let m = moduleOf (a .d) (a .area .now) in
     let row = c .before .before .before .before .before .before .before .before .before .before .look-up in
     let judged = c .before .before .before .before .before .before .before .judge .ensures in
-    let e = sym judged ∙ c .before .before .before .before .before .enum-told .given .1 in
-    (sound (a .d) (a .area .now) (a .revision) (a .function) (a .request .now) (a .answer .now) (row .result) (row .ensures) Accepted e tt .whole, (fits (a .d) (a .area .now) (a .revision) (a .function) (a .request .now) (a .answer .now) (row .result) (row .ensures) e, own-checks (a .d) (a .area .now) (a .revision) (a .function) (a .request .now) (a .answer .now) (row .result) (row .ensures) e))
+    let e = sym judged ∙ c .before .before .before .before .before .enum-told .given .1 in (
+      event-checks m (a .revision) (a .function) (a .request .now) (a .answer .now) (row .result) (row .ensures) Accepted e tt .whole,
+      (
+        fits m (a .revision) (a .function) (a .request .now) (a .answer .now) (row .result) (row .ensures) e,
+        own-checks m (a .revision) (a .function) (a .request .now) (a .answer .now) (row .result) (row .ensures) e,
+      ),
+    )
 
 put-status-requires : tie.Need-put-status-requires
 put-status-requires c κs =
     let a = c .before .before .before .before .before .before .before .before .before .before .before .before .before .before .before .args in
+    let m = moduleOf (a .d) (a .area .now) in
     let row = c .before .before .before .before .before .before .before .before .before .before .before .look-up in
     let judged = c .before .before .before .before .before .before .before .before .judge .ensures in
     let e = sym judged ∙ c .before .before .before .before .before .before .verdict .given .1 ∙ ap Refused (c .before .before .before .refusal .given .1) in
-    let h = status-fits (a .d) (a .area .now) (a .revision) (a .function) (a .request .now) (a .answer .now) (row .result) (row .ensures) (c .before .before .before .refusal .given .0 .0) in
-    let r = room (a .d) (a .area .now) (a .revision) (a .function) (a .request .now) (a .answer .now) (row .result) (row .ensures) _ e tt in
+    let h = status-fits m (a .revision) (a .function) (a .request .now) (a .answer .now) (row .result) (row .ensures) (c .before .before .before .refusal .given .0 .0) in
+    let r = room m (a .revision) (a .function) (a .request .now) (a .answer .now) (row .result) (row .ensures) _ e tt in
     rw (c .before .status-length .ensures) (h .0, omega arith)
 
 left-requires : tie.Need-left-requires
 left-requires c κs =
     let a = c .before .before .before .before .before .before .before .before .before .before .before .before .before .before .before .before .before .before .args in
+    let m = moduleOf (a .d) (a .area .now) in
     let row = c .before .before .before .before .before .before .before .before .before .before .before .before .before .before .look-up in
     let judged = c .before .before .before .before .before .before .before .before .before .before .before .judge .ensures in
     let e = sym judged ∙ c .before .before .before .before .before .before .before .before .before .verdict .given .1 ∙ ap Refused (c .before .before .before .before .before .before .refusal .given .1) in
-    attempts-most (a .d) (sound (a .d) (a .area .now) (a .revision) (a .function) (a .request .now) (a .answer .now) (row .result) (row .ensures) _ e tt .sound)
+    attempts-most (a .d) (event-checks m (a .revision) (a .function) (a .request .now) (a .answer .now) (row .result) (row .ensures) _ e tt .sound)
 
 returns : tie.Need-returns
 returns c =
     let a = c .before .before .before .before .before .before .before .before .before .before .before .before .before .before .before .before .before .before .args in
+    let m = moduleOf (a .d) (a .area .now) in
     let row = c .before .before .before .before .before .before .before .before .before .before .before .before .before .before .look-up in
     let judged = c .before .before .before .before .before .before .before .before .before .before .before .judge .ensures in
     let changed = c .before .before .before .change .ensures in
-    as-accepted (a .d) (a .area .now) (a .revision) (a .function) (a .request .now) (a .answer .now) (row .result) (row .ensures) judged (c .before .before .before .before .before .before .before .before .before .enum-told .given .1) (c .result .ensures) (changed .0) (changed .1)
-    (c .before .before .before .before .before .before .before .put-accepted .ensures (a .request .now))
+    as-accepted m (a .revision) (a .function) (a .request .now) (a .answer .now) (row .result) (row .ensures) judged (c .before .before .before .before .before .before .before .before .before .enum-told .given .1) (c .result .ensures) changed
+    (c .before .before .before .before .before .before .before .put-accepted .ensures (a .area .now) (a .request .now))
 
 returns-2 : tie.Need-returns-2
 returns-2 c =
     let a = c .before .before .before .before .before .before .before .before .before .before .before .before .before .args in
+    let m = moduleOf (a .d) (a .area .now) in
     let row = c .before .before .before .before .before .before .before .before .before .look-up in
     let judged = c .before .before .before .before .before .before .judge .ensures in
-    as-R (a .d) (a .area .now) (a .revision) (a .function) (a .request .now) (a .answer .now) (row .result) (row .ensures) _ (sym (c .before .before .before .before .verdict .given .1) ∙ judged) (ap Refused (c .before .enum-told2 .given .1)) (c .result2 .ensures)
+    as-R m (a .revision) (a .function) (a .request .now) (a .answer .now) (row .result) (row .ensures) _ (sym (c .before .before .before .before .verdict .given .1) ∙ judged) (ap Refused (c .before .enum-told2 .given .1)) (c .result2 .ensures)
 
 returns-3 : tie.Need-returns-3
 returns-3 c =
     let a = c .before .before .before .before .before .before .before .before .before .before .before .before .before .before .before .before .before .before .before .before .args in
+    let m = moduleOf (a .d) (a .area .now) in
     let row = c .before .before .before .before .before .before .before .before .before .before .before .before .before .before .before .before .look-up in
     let judged = c .before .before .before .before .before .before .before .before .before .before .before .before .before .judge .ensures in
-    as-status (a .d) (a .area .now) (a .revision) (a .function) (a .request .now) (a .answer .now) (row .result) (row .ensures) _ _ _ (sym (c .before .before .before .before .before .before .before .before .before .before .before .verdict .given .1) ∙ judged) (ap Refused (c .before .before .before .before .before .before .before .before .refusal .given .1)) (c .result3 .ensures) (c .before .before .before .before .before .before .status-length .ensures) (c .before .left .ensures)
+    as-status m (a .revision) (a .function) (a .request .now) (a .answer .now) (row .result) (row .ensures) _ _ _
+    (sym (c .before .before .before .before .before .before .before .before .before .before .before .verdict .given .1) ∙ judged) (ap Refused (c .before .before .before .before .before .before .before .before .refusal .given .1))
+    (c .result3 .ensures) (c .before .before .before .before .before .before .status-length .ensures) (c .before .left .ensures)
     (c .before .before .before .before .put-status .ensures)
 
 -- by search: look-up-requires, judge-requires, result-requires, enum-known-verdict, enum-told-2, result-requires-2, enum-known-refusal,

@@ -1,18 +1,12 @@
 -- `module::power` meets its contract. The verdict settles the result of the definition (proofs/Outcomes.antt).
 -- Assumes nothing.
 use Rattle.rules.specs.With.{_with-transfer_, _with-security_}
-use Rattle.rules.specs.Transfer.{transferPower}
-use Rattle.rules.specs.Security.{securityPower}
-use Rattle.rules.specs.Module.{powerResult}
-use Rattle.rules.specs.declared.Device.{Device}
+use Rattle.rules.specs.Record.{moduleOf}
+use Rattle.rules.specs.Module.{powered, powerResult}
 use Rattle.module.proofs.Outcomes.{as-changed, as-left}
 use borrow.Author.Needs.{needs}
 use Rattle.module.proofs.power.Statement.{statement}
 use Rattle.module.proofs.power.Tie as tie
-
--- the record after a power cycle
-abbrev powered : Device → Device
-powered d = d with-transfer (transferPower (d .transfer)) with-security (securityPower (d .security))
 
 enum-told : tie.Need-enum-told
 enum-told c = search needs
@@ -21,14 +15,16 @@ returns : tie.Need-returns
 unfolding powerResult
 returns c =
     let a = c .before .before .before .before .before .before .before .before .args in
-    as-changed (powered (a .d)) (a .d) (a .area .now) (c .before .before .before .before .before .before .judge-event .ensures) (c .before .before .before .before .enum-told .given .1) (c .result .ensures)
+    let m = moduleOf (a .d) (a .area .now) in
+    as-changed m (powered m .device) (c .before .before .before .before .before .before .judge-event .ensures) (c .before .before .before .before .enum-told .given .1) (c .result .ensures)
     (λ i. a .d with-transfer (c .before .before .before .power .ensures i) with-security (c .before .before .power2 .ensures i))
 
 returns-2 : tie.Need-returns-2
 unfolding powerResult
 returns-2 c =
     let a = c .before .before .before .before .before .args in
-    as-left (powered (a .d)) (a .d) (a .area .now) _ (c .before .before .before .judge-event .ensures) (c .before .enum-told2 .given .1) (c .result2 .ensures)
+    let m = moduleOf (a .d) (a .area .now) in
+    as-left m (powered m .device) _ (c .before .before .before .judge-event .ensures) (c .before .enum-told2 .given .1) (c .result2 .ensures)
 
 -- by search: judge-event-requires, power-requires, power-requires-2, result-requires, enum-told-2, result-requires-2
 pub power-spec : {M : Type 1} → statement M

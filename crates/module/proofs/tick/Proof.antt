@@ -4,10 +4,10 @@ use mathlib.Core.Path.{sym, _∙_, ap}
 use mathlib.Core.List.{[]}
 use native.Mathlib.Omega.{arith}
 use Rattle.rules.specs.With.{_with-transfer_}
-use Rattle.rules.specs.Transfer.{tickChange}
-use Rattle.rules.specs.Module.{tickResult}
+use Rattle.rules.specs.Record.{moduleOf}
+use Rattle.rules.specs.Module.{ticked, tickResult}
 use Rattle.rules.specs.declared.Transfer.{Transfer}
-use Rattle.rules.proofs.NoR.{event-through, received-most}
+use Rattle.rules.proofs.page.Past.{event-passed, not-by-event, received-most}
 use Rattle.module.proofs.Outcomes.{as-changed, as-left}
 use borrow.Author.Needs.{needs}
 use Rattle.module.proofs.tick.Statement.{statement}
@@ -19,21 +19,24 @@ enum-told c = search needs
 tick-requires : tie.Need-tick-requires
 tick-requires c κs =
     let a = c .before .before .before .before .args in
-    let s = event-through (a .d) (a .area .now) [] _ (sym (c .before .before .judge-event .ensures) ∙ c .enum-told .given .1) tt .0 in
+    let m = moduleOf (a .d) (a .area .now) in
+    let s = event-passed m [] _ (sym (c .before .before .judge-event .ensures) ∙ c .enum-told .given .1) (not-by-event m _ tt) .0 in
     omega (arith, received-most (a .d) (s .sound), s .whole)
 
 returns : tie.Need-returns
 unfolding tickResult
 returns c =
     let a = c .before .before .before .before .before .before .before .before .args in
-    as-changed (a .d with-transfer (tickChange (a .d .transfer) (a .area .now))) (a .d) (a .area .now) (c .before .before .before .before .before .before .judge-event .ensures) (c .before .before .before .before .enum-told .given .1) (c .result .ensures)
+    let m = moduleOf (a .d) (a .area .now) in
+    as-changed m (ticked m .device) (c .before .before .before .before .before .before .judge-event .ensures) (c .before .before .before .before .enum-told .given .1) (c .result .ensures)
     (ap (λ (t : Transfer). a .d with-transfer t) (c .before .before .before .tick .ensures))
 
 returns-2 : tie.Need-returns-2
 unfolding tickResult
 returns-2 c =
     let a = c .before .before .before .before .before .args in
-    as-left (a .d with-transfer (tickChange (a .d .transfer) (a .area .now))) (a .d) (a .area .now) _ (c .before .before .before .judge-event .ensures) (c .before .enum-told2 .given .1) (c .result2 .ensures)
+    let m = moduleOf (a .d) (a .area .now) in
+    as-left m (ticked m .device) _ (c .before .before .before .judge-event .ensures) (c .before .enum-told2 .given .1) (c .result2 .ensures)
 
 -- by search: judge-event-requires, result-requires, enum-told-2, result-requires-2
 pub tick-spec : {M : Type 1} → statement M

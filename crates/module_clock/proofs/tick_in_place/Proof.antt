@@ -43,6 +43,7 @@ use denote.Triple.Table.{entered, cited}
 use denote.Triple.Walked.{says, Stays, stay-ref, stay-none-slice, walkOf, AllGo, goes-none-slice, goes-ref, Walks, ends-at, walked, walk-meets}
 use denote.Exit.{yes}
 use denote.Triple.Clauses.{ensured, lasts}
+use Rattle.rules.specs.Record.{moduleOf}
 use Rattle.rules.specs.Module.{tickResult}
 use Rattle.rules.specs.declared.Device.{Device}
 use Rattle.rules.proofs.Device as T
@@ -92,7 +93,7 @@ module _ {M : Type 1} (𝓤 : URA M) (H : Heap 𝓤) (A : Atoms 𝓤) (W : Given
 
   -- what `module::tick` promises of its answer
   abbrev Said : Outcome → Type 0
-  Said r = Promised (tickResult h (now s)) r (now s) []
+  Said r = Promised (tickResult (moduleOf h (now s))) r (now s) []
 
   abbrev Post : Val → SProp 𝓤
   Post = walkOf 𝓤 H A placed.ended stayed (placed.clauses 𝓤 H A at-mem run) .post ((κs, (q, (q′, tt)), tt, x, at), tt)

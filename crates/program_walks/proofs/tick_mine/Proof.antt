@@ -47,6 +47,7 @@ use denote.Exit.{yes}
 use denote.Triple.Clauses.{ensured, lasts}
 use Rattle.rules.specs.declared.Device.{Device}
 use Rattle.rules.specs.declared.Reply.{Reply}
+use Rattle.rules.specs.Record.{moduleOf}
 use Rattle.rules.proofs.Device as T
 use Rattle.rules.proofs.Device.Laws as T′
 use Rattle.rules.proofs.Reply as E
@@ -132,7 +133,7 @@ module _ {M : Type 1} (𝓤 : URA M) (H : Heap 𝓤) (A : Atoms 𝓤) (W : Given
 
   -- what the callee promises of its reply and of the record behind the reference
   abbrev Said : Reply → Device → Type 0
-  Said r w = TickedInPlace h (now s) r w
+  Said r w = TickedInPlace (moduleOf h (now s)) r w
 
   abbrev replyVal : Reply → Val
   replyVal r = LL.val E.the-type E′.the-laws r

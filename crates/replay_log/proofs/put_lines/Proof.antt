@@ -6,7 +6,7 @@ use native.Mathlib.Omega.{arith}
 use borrow.Author.Needs.{needs}
 use lib.ListN.{length}
 use Rattle.rules.specs.Log.{recordsIn}
-use Rattle.replay_play.specs.Replayed.{moduleOf}
+use Rattle.rules.specs.Record.{moduleOf}
 use Rattle.replay_log.proofs.Turns.{FirstPlayed, none-yet, one-more}
 use Rattle.replay_log.proofs.put_lines.Statement.{statement}
 use Rattle.replay_log.proofs.put_lines.Tie as tie

@@ -5,8 +5,7 @@ use mathlib.Core.Path.{_≡_, _∙_, ap}
 use mathlib.Core.List.{List}
 use native.Mathlib.Omega.{arith}
 use Rattle.rules.specs.declared.Device.{Device}
-use Rattle.rules.specs.Module.{Module}
-use Rattle.replay_play.specs.Replayed.{moduleOf}
+use Rattle.rules.specs.Record.{Module, moduleOf}
 use borrow.Author.Needs.{needs}
 use Rattle.replays.proofs.replay_filled.Statement.{statement}
 use Rattle.replays.proofs.replay_filled.Tie as tie

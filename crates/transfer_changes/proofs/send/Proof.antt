@@ -6,7 +6,7 @@ use Prim.Native.Nat.{ℕ, _+_, _-_, _≤_}
 use native.Mathlib.Omega.{arith}
 use lib.ListN.{length, take, drop}
 use Rattle.rules.specs.Bytes.{splice, numberAt}
-use Rattle.rules.proofs.Accepted.{SendFits, send-fits}
+use Rattle.rules.proofs.page.Accepted.{SendFits, send-fits}
 use Rattle.bytes_base.proofs.Parts.{rest, part-long, lent-copy}
 use borrow.Author.Needs.{needs}
 use Rattle.transfer_changes.proofs.send.Statement.{statement}

@@ -1,7 +1,7 @@
 -- `transfer_changes::start` meets its contract. Acceptance leaves a number to give, so the sum fits.
 -- Assumes nothing.
 use native.Mathlib.Omega.{arith}
-use Rattle.rules.proofs.Accepted.{start-left}
+use Rattle.rules.proofs.page.Accepted.{start-left}
 use borrow.Author.Needs.{needs}
 use Rattle.transfer_changes.proofs.start.Statement.{statement}
 use Rattle.transfer_changes.proofs.start.Tie as tie
