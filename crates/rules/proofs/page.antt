@@ -19,4 +19,5 @@ pub mod Invariant
 pub mod Keeps
 pub mod Possible
 -- Demand 1.
+pub mod Given
 pub mod Demand1

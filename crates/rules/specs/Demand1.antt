@@ -1,15 +1,16 @@
 -- Demand 1. "Any call, with any bytes and any device record, gets an answer and ends. A call we can't serve is refused by its number in document 01. A
 -- refused call leaves the device record and the staging area unchanged, but for one thing: a wrong passphrase adds one to the attempt count."
 -- That every call ends is proved of the code, function by function. Which number a call gets, `Module.callChecks` says, row by row in the page's order, and
--- by definition nothing else decides (`judged`). What is proved here: no other number is given; what a refusal leaves and writes; what an accepted
--- call writes; and that every event keeps a possible record possible.
+-- by definition nothing else decides (`judged`). What is proved here: the page's numbers are given and no other; what a refusal leaves and writes; what an
+-- accepted call writes; and that every event keeps a possible record possible.
 -- Assumes nothing.
 use mathlib.Core.Path.{_≡_}
-use mathlib.Core.Bool.{Bool, true, false, _&&_, _||_}
-use mathlib.Core.List.{List, _++_}
+use mathlib.Core.Bool.{Bool, true, false, _||_}
+use mathlib.Core.Logic.{_⊎_}
+use mathlib.Core.List.{List, [], _∷_, _++_}
 use Prim.Native.Nat.{ℕ, _-_}
 use lib.ListN.{length, take}
-use Rattle.rules.specs.Tests.{if_then_else_, _≤?_, _<?_, _=?_}
+use Rattle.rules.specs.Tests.{if_then_else_, _<?_, _=?_}
 use Rattle.rules.specs.Bytes.{zeros}
 use Rattle.rules.specs.Numbers.{areaSize, answerRoom}
 use Rattle.rules.specs.Record.{fresh, possible, Module}
@@ -22,12 +23,40 @@ use Rattle.rules.specs.declared.Refusal.{Refusal}
 use Rattle.rules.specs.declared.Refusal.the-variants.{R, Status}
 use Rattle.rules.specs.declared.Verdict.the-variants.{Accepted, Refused}
 
--- the refusal numbers of document 01: R1 to R3; 1, 3, 6, 8, 10, 11; 7 with an extended number from 1 to 4. When each is given, the checks say.
-abbrev pub numbered : Refusal → Bool
-numbered (R number) = 1 ≤? number && number ≤? 3
-numbered (Status status ext) =
-    (ext =? 0 && (status =? 1 || status =? 3 || status =? 6 || status =? 8 || status =? 10 || status =? 11))
-    || (status =? 7 && 1 ≤? ext && ext ≤? 4)
+-- the refusal numbers of document 01, in its table's order: these are given, each by some call, and no other is. When each is given, the checks say.
+abbrev pub refusalNumbers : List Refusal
+refusalNumbers =
+    R 1
+    ∷ R 2
+    ∷ R 3
+    ∷ Status 1 0
+    ∷ Status 3 0
+    ∷ Status 6 0
+    ∷ Status 7 1
+    ∷ Status 7 2
+    ∷ Status 7 3
+    ∷ Status 7 4
+    ∷ Status 8 0
+    ∷ Status 10 0
+    ∷ Status 11 0
+    ∷ []
+
+-- it is one of the list
+abbrev pub Among : List Refusal → Refusal → Type 0
+Among [] refusal = ⊥
+Among (number ∷ numbers) refusal = (refusal ≡ number) ⊎ Among numbers refusal
+
+abbrev pub Numbered : Refusal → Type 0
+Numbered refusal = Among refusalNumbers refusal
+
+-- some call on some record is refused by it
+pub record GivenBySome (refusal : Refusal) : Type 0 where
+  pub found : Module
+  pub revision : ℕ
+  pub index : ℕ
+  pub request : List ℕ
+  pub answer : List ℕ
+  pub refused : callResult found revision index request answer .reply .verdict ≡ Refused refusal
 
 -- the column "Answer bytes" of the refusal table, for a function whose answer has n bytes: said again, number by number, to hold `statusLength` to it
 abbrev pub column : (status n : ℕ) → ℕ
@@ -60,7 +89,7 @@ pub record Answered (row : Row) (answer : List ℕ) (result : Result) : Type 0 w
 -- Demand 1 of a call
 pub record OfCall (m : Module) (revision index : ℕ) (request answer : List ℕ) : Type 0 where
   pub judged : callResult m revision index request answer .reply .verdict ≡ verdict (callChecks m revision index request answer)
-  pub numbers : (refusal : Refusal) → callResult m revision index request answer .reply .verdict ≡ Refused refusal → numbered refusal ≡ true
+  pub numbers : (refusal : Refusal) → callResult m revision index request answer .reply .verdict ≡ Refused refusal → Numbered refusal
   pub leaves : (refusal : Refusal) → callResult m revision index request answer .reply .verdict ≡ Refused refusal
       → RefusedBy refusal m (rowOf index .answer) answer (callResult m revision index request answer)
   pub answers : callResult m revision index request answer .reply .verdict ≡ Accepted
@@ -79,8 +108,9 @@ pub record OfEvent (m : Module) (event : Event) : Type 0 where
   pub keeps-size : length (step m event .after .area) ≡ areaSize
   pub only-R1 : (number : ℕ) → step m event .reply .verdict ≡ Refused (R number) → (number ≡ 1) × (bufferTooShort event ≡ true)
 
--- Demand 1: any call with any bytes and any device record; and a fresh module's record is possible, so that what is said of events holds from there on.
+-- Demand 1: any call with any bytes and any device record; every number of the table is given by some call; and a fresh module's record is possible, so that what is said of events holds from there on.
 pub record Demand1 : Type 0 where
   pub calls : (m : Module) (revision index : ℕ) (request answer : List ℕ) → OfCall m revision index request answer
+  pub each-given : (refusal : Refusal) → Numbered refusal → GivenBySome refusal
   pub events : (m : Module) (event : Event) → possible (m .device) ≡ true → length (m .area) ≡ areaSize → OfEvent m event
   pub fresh-possible : possible fresh ≡ true

@@ -54,6 +54,7 @@ pub mod Module
 pub mod Log
 pub mod Replay
 pub mod Cases
+pub mod Texts
 -- Demand 2 has no statement of its own: the definitions above are it. `step` (Module.antt) is the one result of each event, `replayText` (Replay.antt) the one
 -- text of each log; that the code gives exactly these is proved crate by crate.
 -- Demand 1.
@@ -65,3 +66,5 @@ pub mod Hosts
 pub mod Sends
 pub mod Moves
 pub mod Demand3
+-- Beside the demands.
+pub mod Beside

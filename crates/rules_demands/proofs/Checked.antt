@@ -1,96 +1,137 @@
--- A test for honest hosts: a history that passes it is honest. It serves computed histories.
+-- The test for honest hosts tells the truth: a history passes it exactly when its hosts are honest.
 -- Assumes nothing.
 use Prim.Native.Nat.{ℕ, _≤_}
 use mathlib.Core.Path.{_≡_, refl, sym, _∙_, ap, subst}
-use mathlib.Core.Logic.{inl, inr}
+use mathlib.Core.Logic.{_↔_, inl, inr}
 use mathlib.Core.Bool.{Bool, true, false, _&&_, _||_, false≢true}
 use mathlib.Core.List.{List, [], _∷_}
 use lib.ListN.{length}
-use borrow.Author.Tests.{eqb-true, le-leb}
+use borrow.Author.Tests.{eqb-true, eq-eqb, leb-true, le-leb}
 use Rattle.rules.specs.Tests.{_=?_, _≤?_, _implies_}
-use Rattle.rules.specs.Transfer.{GetFwInfo, Start, Send, Finish, Query}
-use Rattle.rules.specs.Module.{Call, OnMask, OnThresholds, OnTransfer, OnSecurity, OnNothing, Event, call, tick, power, callIn}
-use Rattle.rules.specs.Transfers.{Exchange, History, Kind, Started, Sent, Finished, Ticked, Powered, Other, kindOf}
+use Rattle.rules.specs.Bytes.{numberAt}
+use Rattle.rules.specs.Table.{table, rowOf}
+use Rattle.rules.specs.Module.{Event, call, tick, power, callOf, callIn}
+use Rattle.rules.specs.Transfers.{History, Kind, Started, Sent, Finished, Ticked, Powered, Other}
 use Rattle.rules.specs.Hosts.{Carries, Uses, AnsweredTo, HonestAfter, Honest}
-use Rattle.rules.proofs.page.Choice.{and-true}
+use Rattle.rules.specs.declared.Row.{Row}
+use Rattle.rules.proofs.page.Choice.{and-true, or-true}
+use Rattle.rules_demands.specs.Words.{what, answeredIt, answeredTo, usesOwn, honestAfter, honest?}
+use Rattle.rules_demands.proofs.Places.{looked-at}
+use Rattle.rules_demands.proofs.Words.{kind-is}
+
+-- tests that are joined
+both : (a b : Bool) → a ≡ true → b ≡ true → (a && b) ≡ true
+both true b e f = f
+both false b e f = absurd (false≢true e)
+
+first-true : (a b : Bool) → a ≡ true → (a || b) ≡ true
+first-true true b e = refl
+first-true false b e = absurd (false≢true e)
+
+implied : (a b : Bool) → (a implies b) ≡ true → a ≡ true → b ≡ true
+implied true b e f = e
+implied false b e f = absurd (false≢true f)
+
+implies-when : (a b : Bool) → (a ≡ true → b ≡ true) → (a implies b) ≡ true
+implies-when true b f = f refl
+implies-when false b f = refl
 
 -- a Start that answered the context to the host
-abbrev startedTo : (host context : ℕ) → Kind → Bool
-startedTo host context (Started to given) = to =? host && given =? context
-startedTo host context (Sent sender given offset piece) = false
-startedTo host context (Finished sender given flag) = false
-startedTo host context Ticked = false
-startedTo host context Powered = false
-startedTo host context Other = false
-
-abbrev answeredTo : (host context : ℕ) → History → Bool
-answeredTo host context [] = false
-answeredTo host context (x ∷ h) = startedTo host context (kindOf x) || answeredTo host context h
-
--- the context that the call carries, if it carries one, passes the test
-abbrev carried : (ℕ → Bool) → Call → (request : List ℕ) → Bool
-carried test (OnMask revision) request = true
-carried test (OnThresholds x) request = true
-carried test (OnTransfer GetFwInfo) request = true
-carried test (OnTransfer Start) request = true
-carried test (OnTransfer (Send c offset size piece)) request = 4 ≤? length request implies test c
-carried test (OnTransfer (Finish flag c)) request = 8 ≤? length request implies test c
-carried test (OnTransfer (Query c)) request = 4 ≤? length request implies test c
-carried test (OnSecurity x) request = true
-carried test OnNothing request = true
-
-abbrev usesOwn : History → Event → Bool
-usesOwn past (call host revision index request answer) = carried (λ c. answeredTo host c past) (callIn revision index request) request
-usesOwn past tick = true
-usesOwn past power = true
-
-abbrev honestAfter : (past h : History) → Bool
-honestAfter past [] = true
-honestAfter past (x ∷ h) = usesOwn past (x .event) && honestAfter (x ∷ past) h
-
-abbrev pub honest? : History → Bool
-honest? h = honestAfter [] h
-
--- it tells the truth
-started-to : (host context : ℕ) (k : Kind) → startedTo host context k ≡ true → k ≡ Started host context
-started-to host context (Started to given) e =
+answered-it : (host context : ℕ) (k : Kind) → answeredIt host context k ≡ true → k ≡ Started host context
+answered-it host context (Started to given) e =
     let q = and-true (to =? host) (given =? context) e in
     ap (λ (n : ℕ). Started n given) (eqb-true to host (q .0)) ∙ ap (Started host) (eqb-true given context (q .1))
-started-to host context (Sent sender given offset piece) e = absurd (false≢true e)
-started-to host context (Finished sender given flag) e = absurd (false≢true e)
-started-to host context Ticked e = absurd (false≢true e)
-started-to host context Powered e = absurd (false≢true e)
-started-to host context Other e = absurd (false≢true e)
+answered-it host context (Sent sender given offset piece) e = absurd (false≢true e)
+answered-it host context (Finished sender given flag) e = absurd (false≢true e)
+answered-it host context Ticked e = absurd (false≢true e)
+answered-it host context Powered e = absurd (false≢true e)
+answered-it host context Other e = absurd (false≢true e)
 
-answered-step : (b : Bool) (host context : ℕ) (x : Exchange) (h : History) → startedTo host context (kindOf x) ≡ b → (b || answeredTo host context h) ≡ true
-    → (answeredTo host context h ≡ true → AnsweredTo host context h) → AnsweredTo host context (x ∷ h)
-answered-step true host context x h e q i = inl (started-to host context (kindOf x) e)
-answered-step false host context x h e q i = inr (i q)
-
-answered-to : (host context : ℕ) (h : History) → answeredTo host context h ≡ true → AnsweredTo host context h
+answered-to : (host context : ℕ) (past : History) → answeredTo host context past ≡ true → AnsweredTo host context past
 answered-to host context [] e = absurd (false≢true e)
-answered-to host context (x ∷ h) e = answered-step (startedTo host context (kindOf x)) host context x h refl e (answered-to host context h)
+answered-to host context (x ∷ past) e = go (answeredIt host context (what x)) refl e (answered-to host context past)
+  where
+    go : (b : Bool) → answeredIt host context (what x) ≡ b → (b || answeredTo host context past) ≡ true
+        → (answeredTo host context past ≡ true → AnsweredTo host context past) → AnsweredTo host context (x ∷ past)
+    go true f q later = inl (kind-is x ∙ answered-it host context (what x) f)
+    go false f q later = inr (later q)
 
-implied : (n : ℕ) (request : List ℕ) (b : Bool) → (n ≤? length request implies b) ≡ true → n ≤ length request → b ≡ true
-implied n request b e l = sym (ap (λ (a : Bool). a implies b) (le-leb n (length request) l)) ∙ e
+answered-back : (host context : ℕ) (past : History) → AnsweredTo host context past → answeredTo host context past ≡ true
+answered-back host context [] a = absurd a
+answered-back host context (x ∷ past) (inl e) =
+    first-true (answeredIt host context (what x)) (answeredTo host context past)
+    (ap (answeredIt host context) (sym (kind-is x) ∙ e) ∙ both (host =? host) (context =? context) (eq-eqb host host refl) (eq-eqb context context refl))
+answered-back host context (x ∷ past) (inr a) =
+    or-true (answeredIt host context (what x)) (answeredTo host context past) (answered-back host context past a)
 
-carried-passes : (test : ℕ → Bool) (c : Call) (request : List ℕ) (context : ℕ) → carried test c request ≡ true → Carries c request context → test context ≡ true
-carried-passes test (OnMask revision) request context e k = absurd k
-carried-passes test (OnThresholds x) request context e k = absurd k
-carried-passes test (OnTransfer GetFwInfo) request context e k = absurd k
-carried-passes test (OnTransfer Start) request context e k = absurd k
-carried-passes test (OnTransfer (Send c offset size piece)) request context e k = ap test (k .1) ∙ implied 4 request (test c) e (k .0)
-carried-passes test (OnTransfer (Finish flag c)) request context e k = ap test (k .1) ∙ implied 8 request (test c) e (k .0)
-carried-passes test (OnTransfer (Query c)) request context e k = ap test (k .1) ∙ implied 4 request (test c) e (k .0)
-carried-passes test (OnSecurity x) request context e k = absurd k
-carried-passes test OnNothing request context e k = absurd k
+-- a call that carries a context
+module _ (test : ℕ → Bool) (request : List ℕ) where
+  abbrev early : (index : ℕ) → Bool
+  early index = index =? 14 || index =? 16 implies (4 ≤? length request implies test (numberAt 4 0 request))
+
+  abbrev late : (index : ℕ) → Bool
+  late index = index =? 15 implies (8 ≤? length request implies test (numberAt 4 4 request))
+
+  carries-tested : (revision index context : ℕ) → (early index && late index) ≡ true → Carries (callIn revision index request) request context → test context ≡ true
+  unfolding rowOf
+  carries-tested revision index context =
+      looked-at (λ (i : ℕ) (r : Row). (early i && late i) ≡ true → Carries (callOf (r .function) revision request) request context → test context ≡ true)
+      index table (
+        no,
+        (
+          no,
+          (
+            no,
+            (
+              no,
+              (
+                λ e k. ap test (k .1) ∙ implied (4 ≤? length request) (test (numberAt 4 0 request)) (and-true (early 14) (late 14) e .0) (le-leb 4 (length request) (k .0)),
+                (
+                  λ e k. ap test (k .1) ∙ implied (8 ≤? length request) (test (numberAt 4 4 request)) (and-true (early 15) (late 15) e .1) (le-leb 8 (length request) (k .0)),
+                  (
+                    λ e k. ap test (k .1) ∙ implied (4 ≤? length request) (test (numberAt 4 0 request)) (and-true (early 16) (late 16) e .0) (le-leb 4 (length request) (k .0)),
+                    (no, (no, (no, (no, (no, (no, tt)))))),
+                  ),
+                ),
+              ),
+            ),
+          ),
+        ),
+      )
+      (λ lacks. no)
+    where
+      no : {t : Bool} → t ≡ true → ⊥ → test context ≡ true
+      no e k = absurd k
 
 uses-own : (past : History) (event : Event) → usesOwn past event ≡ true → (host context : ℕ) → Uses event host context → AnsweredTo host context past
-uses-own past (call caller revision index request answer) e host context u =
+uses-own past (call caller revision index request lent) e host context u =
     subst (λ (n : ℕ). AnsweredTo n context past) (sym (u .0))
-    (answered-to caller context past (carried-passes (λ c. answeredTo caller c past) (callIn revision index request) request context e (u .1)))
+    (answered-to caller context past (carries-tested (λ c. answeredTo caller c past) request revision index context e (u .1)))
 uses-own past tick e host context u = absurd u
 uses-own past power e host context u = absurd u
+
+carries-at : (revision index : ℕ) (request : List ℕ) (context at : ℕ) → Carries (callIn revision at request) request context → index ≡ at
+    → Carries (callIn revision index request) request context
+carries-at revision index request context at k e = subst (λ (i : ℕ). Carries (callIn revision i request) request context) (sym e) k
+
+uses-back : (past : History) (event : Event) → ((host context : ℕ) → Uses event host context → AnsweredTo host context past) → usesOwn past event ≡ true
+unfolding rowOf
+uses-back past (call caller revision index request lent) own =
+    both (index =? 14 || index =? 16 implies (4 ≤? length request implies answeredTo caller (numberAt 4 0 request) past))
+    (index =? 15 implies (8 ≤? length request implies answeredTo caller (numberAt 4 4 request) past))
+    (implies-when (index =? 14 || index =? 16) (4 ≤? length request implies answeredTo caller (numberAt 4 0 request) past)
+    (λ e. implies-when (4 ≤? length request) (answeredTo caller (numberAt 4 0 request) past)
+    (λ l. answered-back caller (numberAt 4 0 request) past (own caller (numberAt 4 0 request) (refl, early-one (index =? 14) refl e (leb-true 4 (length request) l))))))
+    (implies-when (index =? 15) (8 ≤? length request implies answeredTo caller (numberAt 4 4 request) past)
+    (λ e. implies-when (8 ≤? length request) (answeredTo caller (numberAt 4 4 request) past)
+    (λ l. answered-back caller (numberAt 4 4 request) past
+    (own caller (numberAt 4 4 request) (refl, carries-at revision index request (numberAt 4 4 request) 15 (leb-true 8 (length request) l, refl) (eqb-true index 15 e))))))
+  where
+    early-one : (b : Bool) → (index =? 14) ≡ b → (b || index =? 16) ≡ true → 4 ≤ length request → Carries (callIn revision index request) request (numberAt 4 0 request)
+    early-one true f e l = carries-at revision index request (numberAt 4 0 request) 14 (l, refl) (eqb-true index 14 f)
+    early-one false f e l = carries-at revision index request (numberAt 4 0 request) 16 (l, refl) (eqb-true index 16 e)
+uses-back past tick own = refl
+uses-back past power own = refl
 
 honest-after : (past h : History) → honestAfter past h ≡ true → HonestAfter past h
 honest-after past [] e = tt
@@ -98,5 +139,9 @@ honest-after past (x ∷ h) e =
     let q = and-true (usesOwn past (x .event)) (honestAfter (x ∷ past) h) e in
     (uses-own past (x .event) (q .0), honest-after (x ∷ past) h (q .1))
 
-pub checked : (h : History) → honest? h ≡ true → Honest h
-checked h e = honest-after [] h e
+honest-back : (past h : History) → HonestAfter past h → honestAfter past h ≡ true
+honest-back past [] a = refl
+honest-back past (x ∷ h) a = both (usesOwn past (x .event)) (honestAfter (x ∷ past) h) (uses-back past (x .event) (a .0)) (honest-back (x ∷ past) h (a .1))
+
+pub checked : (h : History) → (honest? h ≡ true) ↔ Honest h
+checked h = (honest-after [] h, honest-back [] h)

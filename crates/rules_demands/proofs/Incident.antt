@@ -136,7 +136,7 @@ moved = refl
 -- Both hosts are honest: the recorder uses the context that its Start answered, the laptop uses none.
 pub honest : Honest (historyOf machine new (same-hour ++ restart))
 unfolding zeros? possible possibleTransfer possibleSecurity possibleThresholds verdict rowOf fits? sumOfWords goodRecord goodRecords goodImage imageOf callResult tickResult powerResult
-honest = checked (historyOf machine new (same-hour ++ restart)) refl
+honest = checked (historyOf machine new (same-hour ++ restart)) .0 refl
 
 -- so all of demand 3 holds of it
 pub as-demanded : Demand3Of new (historyOf machine new (same-hour ++ restart))

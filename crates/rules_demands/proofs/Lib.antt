@@ -1,3 +1,12 @@
--- That demand 3 is not empty: a test for honest hosts, and the incident at sea, computed.
+-- The demands written out, from the demands.
+pub mod Places
+pub mod Calls
+pub mod Words
+pub mod Turns
 pub mod Checked
+pub mod Histories
+pub mod Beside
+-- The lists of cases and of texts.
+pub mod Examples
+-- That demand 3 is not empty: the incident at sea, computed.
 pub mod Incident

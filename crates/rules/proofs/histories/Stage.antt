@@ -13,7 +13,7 @@ use Rattle.rules.specs.Image.{imageOf}
 use Rattle.rules.specs.Refusals.{refused?}
 use Rattle.rules.specs.Table.{rowOf}
 use Rattle.rules.specs.Transfer.{TransferCall, GetFwInfo, Start, Send, Finish, Query, receivedBytes}
-use Rattle.rules.specs.Module.{Call, OnMask, OnThresholds, OnTransfer, OnSecurity, OnNothing, Event, call, tick, power, callIn, step}
+use Rattle.rules.specs.Module.{Call, OnMask, OnThresholds, OnTransfer, OnSecurity, OnNothing, Event, call, tick, power, callIn}
 use Rattle.rules.specs.History.{end, afterExchange}
 use Rattle.rules.specs.Transfers.{Answer, machine, Exchange, History, Kind, Started, Sent, Finished, Other, callKind, kindOf}
 use Rattle.rules.specs.Sends.{tickCount, powerCount, powerCycles}
@@ -23,6 +23,7 @@ use Rattle.rules.specs.declared.Image.the-variants.{Good, Bad}
 use Rattle.rules.specs.declared.Phase.{Phase}
 use Rattle.rules.specs.declared.Phase.the-variants.{Receiving, Verifying, Staged}
 use Rattle.rules.specs.declared.Transfer.{Transfer}
+use Rattle.rules.specs.Beside.{TakenOver}
 use Rattle.rules.proofs.page.Choice.{if-both, and-true}
 use Rattle.rules.proofs.histories.Joining.{end-join, counted-along, total-none}
 use Rattle.rules.proofs.page.Split.{TransferPart, partOf, Act, Transfers, Others, Ticks, Powers, act, actOf, unserved?, misfit?, partVerdict, partChange, partNext, partTick, nexts, actKind}
@@ -114,7 +115,7 @@ staged-as m version e =
     record { phase = is-phase (m .device .transfer .phase) Staged (q .0); version-is = eqb-true (m .device .transfer .staged) version (q .1) }
 
 -- "From Staged the staged version becomes the running one."
-pub taken-over : (m : Module) (version : ℕ) → Sound m → stagedWith version m ≡ true → step m power .after .device .transfer .running ≡ version
+pub taken-over : TakenOver
 taken-over m version w e =
     let q = staged-as m version e in
     ap (λ (u : Module). u .device .transfer .running) (sound-through m power w refl .nexts-as)

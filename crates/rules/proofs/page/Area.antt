@@ -7,20 +7,12 @@ use Rattle.rules.specs.Refusals.{verdict, eventChecks}
 use Rattle.rules.specs.Table.{rowOf}
 use Rattle.rules.specs.Transfer.{GetFwInfo, Start, Send, Finish, Query}
 use Rattle.rules.specs.Record.{Module}
-use Rattle.rules.specs.Module.{Call, OnMask, OnThresholds, OnTransfer, OnSecurity, OnNothing, Event, call, tick, power, outcome, ticked, powered, happened, callChecks, callResult, tickResult, powerResult, callIn}
-use Rattle.rules.specs.Transfers.{machine, Kind, Started, Sent, Finished, Ticked, Powered, Other, callKind, eventKind}
+use Rattle.rules.specs.Module.{Call, OnMask, OnThresholds, OnTransfer, OnSecurity, OnNothing, call, tick, power, outcome, ticked, powered, happened, callChecks, callResult, tickResult, powerResult, callIn}
+use Rattle.rules.specs.Transfers.{callKind}
+use Rattle.rules.specs.Beside.{NoSend, AreaStays}
 use Rattle.rules.specs.declared.Refusal.the-variants.{R, Status}
 use Rattle.rules.specs.declared.Verdict.{Verdict}
 use Rattle.rules.specs.declared.Verdict.the-variants.{Accepted, Refused}
-
--- no accepted Send
-abbrev pub NoSend : Kind → Type 0
-NoSend (Started host context) = Unit {0}
-NoSend (Sent host context offset piece) = ⊥
-NoSend (Finished host context flag) = Unit {0}
-NoSend Ticked = Unit {0}
-NoSend Powered = Unit {0}
-NoSend Other = Unit {0}
 
 outcome-area : (v : Verdict) (host : ℕ) (m : Module) (c : Call) (n : ℕ) (answer : List ℕ)
     → NoSend (callKind host c (record { reply = outcome v m c n answer .reply; buffer = outcome v m c n answer .answer })) → outcome v m c n answer .after .area ≡ m .area
@@ -40,7 +32,7 @@ happened-area : (v : Verdict) (changed was : Module) → changed .area ≡ was .
 happened-area Accepted changed was e = e
 happened-area (Refused refusal) changed was e = refl
 
-pub area-stays : (m : Module) (event : Event) → NoSend (eventKind event (machine .answer m event)) → machine .next m event .area ≡ m .area
+pub area-stays : AreaStays
 unfolding callResult tickResult powerResult
 area-stays m (call host revision index request answer) k =
     outcome-area (verdict (callChecks m revision index request answer)) host m (callIn revision index request) (rowOf index .answer) answer k

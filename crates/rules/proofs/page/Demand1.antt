@@ -1,8 +1,9 @@
 -- Demand 1, proved: a refused call is refused by its number in document 01, writes that number's bytes, and leaves the rest.
 -- Assumes nothing.
 use mathlib.Core.Path.{_≡_, refl, sym, _∙_, ap, subst}
-use mathlib.Core.Bool.{Bool, true, _&&_}
-use mathlib.Core.List.{List, _++_}
+use mathlib.Core.Logic.{inl, inr}
+use mathlib.Core.Bool.{Bool, true, false, _&&_, _||_, false≢true}
+use mathlib.Core.List.{List, [], _∷_, _++_}
 use Prim.Native.Nat.{ℕ, _-_}
 use borrow.Author.Tests.{eqb-true, eq-eqb}
 use lib.ListN.{length, take}
@@ -12,7 +13,7 @@ use Rattle.rules.specs.Record.{Module}
 use Rattle.rules.specs.Refusals.{verdict, statusBytes, statusLength, answerAfter}
 use Rattle.rules.specs.Table.{table, rowOf}
 use Rattle.rules.specs.Module.{Call, callOf, checks, acceptedAnswer, gateChecks, callChecks, outcome, callResult}
-use Rattle.rules.specs.Demand1.{numbered, column, RefusedBy, Answered, OfCall, Demand1}
+use Rattle.rules.specs.Demand1.{refusalNumbers, Among, Numbered, column, RefusedBy, Answered, OfCall, Demand1}
 use Rattle.rules.specs.declared.Function.{Function}
 use Rattle.rules.specs.declared.Function.the-variants.{Mask, GetThreshold, GetFwInfo, Start, Send, Finish, Query, SetThreshold, GetSecurityState, SetPassphrase, Disable, Unlock, Freeze, Unserved}
 use Rattle.rules.specs.declared.Row.{Row}
@@ -23,13 +24,44 @@ use Rattle.rules.specs.declared.Verdict.the-variants.{Accepted, Refused}
 use Rattle.rules.proofs.page.Choice.{and-true}
 use Rattle.rules.proofs.page.Passed.{every, by-rows}
 use Rattle.rules.proofs.page.Rows.{looked-up}
+use Rattle.rules.proofs.page.Given.{each-given}
 use Rattle.rules.proofs.page.Possible.{possible-fresh, possible-next, area-next, only-R1}
+
+-- a test for the numbers of a list, and that it tells the truth
+abbrev same-number : Refusal → Refusal → Bool
+same-number (R a) (R b) = a =? b
+same-number (R a) (Status status ext) = false
+same-number (Status status ext) (R b) = false
+same-number (Status a b) (Status status ext) = a =? status && b =? ext
+
+abbrev among? : List Refusal → Refusal → Bool
+among? [] refusal = false
+among? (number ∷ numbers) refusal = same-number refusal number || among? numbers refusal
+
+same-numbers : (a b : Refusal) → same-number a b ≡ true → a ≡ b
+same-numbers (R a) (R b) e = ap R (eqb-true a b e)
+same-numbers (R a) (Status status ext) e = absurd (false≢true e)
+same-numbers (Status status ext) (R b) e = absurd (false≢true e)
+same-numbers (Status a b) (Status status ext) e =
+    let q = and-true (a =? status) (b =? ext) e in
+    ap (λ (s : ℕ). Status s b) (eqb-true a status (q .0)) ∙ ap (Status status) (eqb-true b ext (q .1))
+
+among-them : (numbers : List Refusal) (refusal : Refusal) → among? numbers refusal ≡ true → Among numbers refusal
+among-them [] refusal e = absurd (false≢true e)
+among-them (number ∷ numbers) refusal e = go (same-number refusal number) refl e (among-them numbers refusal)
+  where
+    go : (b : Bool) → same-number refusal number ≡ b → (b || among? numbers refusal) ≡ true → (among? numbers refusal ≡ true → Among numbers refusal) → Among (number ∷ numbers) refusal
+    go true same q later = inl (same-numbers refusal number same)
+    go false same q later = inr (later q)
+
+abbrev numbered? : Refusal → Bool
+numbered? refusal = among? refusalNumbers refusal
 
 -- a verdict that a function with an answer of n bytes may give: a refusal has a number, and its column is its length
 abbrev allowed : (n : ℕ) → Verdict → Bool
 allowed n Accepted = true
-allowed n (Refused (R number)) = numbered (R number)
-allowed n (Refused (Status status ext)) = numbered (Status status ext) && statusLength status n =? column status n
+allowed n (Refused (R number)) = numbered? (R number)
+allowed n (Refused (Status status ext)) = numbered? (Status status ext) && statusLength status n =? column status n
 
 -- the answer's length, by function
 abbrev answerOf : Function → ℕ
@@ -78,12 +110,13 @@ refused-by : (refusal : Refusal) (m : Module) (call : Call) (n : ℕ) (answer : 
     → RefusedBy refusal m n answer (outcome (Refused refusal) m call n answer)
 refused-by (R number) m call n answer e = (refl, refl, refl, refl)
 refused-by (Status status ext) m call n answer e =
-    let long = eqb-true (statusLength status n) (column status n) (and-true (numbered (Status status ext)) (statusLength status n =? column status n) e .1) in
+    let long = eqb-true (statusLength status n) (column status n) (and-true (numbered? (Status status ext)) (statusLength status n =? column status n) e .1) in
     (refl, refl, ap (λ (k : ℕ). answerAfter (statusBytes status ext ++ zeros (k - 4)) answer) long, long)
 
-numbers-of : (n : ℕ) (refusal : Refusal) → allowed n (Refused refusal) ≡ true → numbered refusal ≡ true
-numbers-of n (R number) e = e
-numbers-of n (Status status ext) e = and-true (numbered (Status status ext)) (statusLength status n =? column status n) e .0
+numbers-of : (n : ℕ) (refusal : Refusal) → allowed n (Refused refusal) ≡ true → Numbered refusal
+numbers-of n (R number) e = among-them refusalNumbers (R number) e
+numbers-of n (Status status ext) e =
+    among-them refusalNumbers (Status status ext) (and-true (numbered? (Status status ext)) (statusLength status n =? column status n) e .0)
 
 -- an accepted call's bytes have the function's length, and begin with status 0
 accepted-long : (m : Module) (f : Function) (revision : ℕ) (request : List ℕ) → length (acceptedAnswer m (callOf f revision request)) ≡ answerOf f
@@ -169,6 +202,7 @@ pub demand-1 : Demand1
 demand-1 =
     record {
       calls = of-call;
+      each-given = each-given;
       events = λ m event p l.
           record {
             stays-possible = possible-next m event p l;

@@ -1,0 +1,83 @@
+-- Every refusal number of document 01 is given by some call on some record: a witness for each, in the order of `refusalNumbers`, computed.
+-- Assumes nothing.
+use Prim.Native.Nat.{ℕ}
+use native.Mathlib.Omega.{arith}
+use mathlib.Core.Path.{_≡_, refl, sym, _∙_, ap}
+use mathlib.Core.Logic.{inl, inr}
+use mathlib.Core.Bool.{true}
+use mathlib.Core.List.{List, [], _∷_, map}
+use lib.ListN.{length, replicate}
+use Rattle.rules.specs.Bytes.{le, zeros, zeros?, same?}
+use Rattle.rules.specs.Numbers.{areaSize, lastContext}
+use Rattle.rules.specs.With.{_with-phase_, _with-contexts_, _with-enabled_, _with-frozen_, _with-transfer_, _with-security_}
+use Rattle.rules.specs.Record.{fresh, possible, possibleTransfer, possibleSecurity, possibleThresholds, Module, moduleOf}
+use Rattle.rules.specs.Refusals.{verdict}
+use Rattle.rules.specs.Table.{rowOf, fits?}
+use Rattle.rules.specs.Module.{callResult}
+use Rattle.rules.specs.Demand1.{refusalNumbers, Among, GivenBySome}
+use Rattle.rules.specs.declared.Phase.{Phase}
+use Rattle.rules.specs.declared.Phase.the-variants.{Idle, Receiving, Staged, Failed}
+use Rattle.rules.specs.declared.Refusal.{Refusal}
+use Rattle.rules.specs.declared.Verdict.{Verdict}
+use Rattle.rules.specs.declared.Verdict.the-variants.{Accepted, Refused}
+use Rattle.rules.specs.declared.Security.{Security}
+
+-- a call at revision 2: the module that it finds, the function, the request, the answer buffer
+record Witness : Type 0 where
+  found : Module
+  index : ℕ
+  request : List ℕ
+  answer : List ℕ
+
+abbrev verdictOn : Witness → Verdict
+verdictOn w = callResult (w .found) 2 (w .index) (w .request) (w .answer) .reply .verdict
+
+-- a module in this phase, with so many contexts given; one with this security; and a call with room for its answer
+abbrev inPhase : Phase → (contexts : ℕ) → Module
+inPhase phase contexts = moduleOf (fresh with-transfer (fresh .transfer with-phase phase with-contexts contexts)) (zeros areaSize)
+
+abbrev secured : Security → Module
+secured s = moduleOf (fresh with-security s) (zeros areaSize)
+
+abbrev asked : Module → (index : ℕ) (request : List ℕ) → Witness
+asked m index request = record { found = m; index = index; request = request; answer = zeros 64 }
+
+witnesses : List Witness
+witnesses =
+    record { found = inPhase Idle 0; index = 13; request = []; answer = zeros 63 }
+    ∷ asked (moduleOf fresh []) 13 []
+    ∷ asked (inPhase Receiving 0) 13 []
+    ∷ asked (inPhase Idle 0) 18 []
+    ∷ asked (inPhase Idle 0) 13 (zeros 1)
+    ∷ asked (inPhase Staged 1) 16 (le 4 1)
+    ∷ asked (inPhase Receiving 1) 13 []
+    ∷ asked (inPhase Staged 1) 13 []
+    ∷ asked (inPhase Failed 1) 16 (le 4 1)
+    ∷ asked (inPhase Receiving 1) 16 (le 4 1)
+    ∷ asked (inPhase Idle lastContext) 13 []
+    ∷ asked (secured (fresh .security with-frozen true)) 23 []
+    ∷ asked (secured (fresh .security with-enabled true)) 21 (replicate 32 1)
+    ∷ []
+
+claim : map verdictOn witnesses ≡ map Refused refusalNumbers
+unfolding zeros? same? possible possibleTransfer possibleSecurity possibleThresholds verdict rowOf fits? callResult witnesses
+claim = refl
+
+-- the first of a list, and the others
+abbrev first : List Verdict → Verdict
+first [] = Accepted
+first (v ∷ vs) = v
+
+abbrev others : List Verdict → List Verdict
+others [] = []
+others (v ∷ vs) = vs
+
+each-of : (numbers : List Refusal) (ws : List Witness) → map verdictOn ws ≡ map Refused numbers → (refusal : Refusal) → Among numbers refusal → GivenBySome refusal
+each-of [] ws e refusal a = absurd a
+each-of (number ∷ numbers) [] e refusal a = let n = ap length e in absurd (omega arith)
+each-of (number ∷ numbers) (w ∷ ws) e refusal (inl same) =
+    record { found = w .found; revision = 2; index = w .index; request = w .request; answer = w .answer; refused = ap first e ∙ ap Refused (sym same) }
+each-of (number ∷ numbers) (w ∷ ws) e refusal (inr a) = each-of numbers ws (ap others e) refusal a
+
+pub each-given : (refusal : Refusal) → Among refusalNumbers refusal → GivenBySome refusal
+each-given refusal a = each-of refusalNumbers witnesses claim refusal a

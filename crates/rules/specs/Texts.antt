@@ -1,0 +1,67 @@
+-- Document 01, "The replay program": logs and the texts that they print, as rows of one list: the page's own example, and beside it the empty log, a log that
+-- ends in the middle of a record, and every line that the page names. That each prints just this text is the claim `texts-claim` of proofs/page/Claim.antt.
+-- Assumes nothing.
+use Prim.Native.Nat.{ℕ, _-_}
+use mathlib.Core.List.{List, [], _∷_, _++_}
+use lib.ListN.{length, take}
+use Rattle.rules.specs.Bytes.{le, zeros}
+use Rattle.rules.specs.Text.{ascii}
+
+-- a row: the log, and the text that it prints
+infix 20 _prints_
+pub data Printed : Type 0 where
+  _prints_ : (log text : List ℕ) → Printed
+
+abbrev pub logOf : Printed → List ℕ
+logOf (log prints text) = log
+
+abbrev pub textOf : Printed → List ℕ
+textOf (log prints text) = text
+
+-- records of a log: a host's call at revision 2, a tick, a power cycle, and one of a kind that there is not
+abbrev asks : (host index : ℕ) (request : List ℕ) → List ℕ
+asks host index request =
+    (1 ∷ host ∷ le 2 2) ++ le 2 index ++ le 2 (length request) ++ request ++ zeros (536 - length request)
+
+abbrev ticks : List ℕ
+ticks = 2 ∷ zeros 543
+
+abbrev powers : List ℕ
+powers = 3 ∷ zeros 543
+
+abbrev fourth-kind : List ℕ
+fourth-kind = 4 ∷ zeros 543
+
+abbrev eight-ticks : List ℕ
+eight-ticks = ticks ++ ticks ++ ticks ++ ticks ++ ticks ++ ticks ++ ticks ++ ticks
+
+-- the image of one record, version 1, of the page's cases, sent with context 1
+abbrev sends-image : List ℕ
+sends-image = asks 1 14 (le 4 1 ++ le 4 0 ++ le 4 128 ++ le 2 0 ++ le 2 1 ++ le 8 1 ++ zeros 112 ++ (0x01 ∷ 0x00 ∷ 0x01 ∷ 0x00 ∷ []))
+
+abbrev finishes : List ℕ
+finishes = asks 1 15 (zeros 4 ++ le 4 1)
+
+abbrev heading : List ℕ
+heading = ascii "record kind status ext length\n"
+
+abbrev pub texts : List Printed
+texts =
+    -- "Start, Start by another host, tick, and 10 bytes over print exactly:"
+    (asks 1 13 [] ++ asks 2 13 [] ++ ticks ++ zeros 10
+    prints heading ++ ascii "0 call 0 0 8\n1 call 7 1 8\n2 tick\n3 short\nend receiving 1\n")
+    -- the empty log
+    ∷ ([] prints heading ++ ascii "end idle 0\n")
+    -- a log that ends in the middle of its second record
+    ∷ (asks 1 13 [] ++ take 272 finishes prints heading ++ ascii "0 call 0 0 8\n1 short\nend receiving 1\n")
+    -- "A power cycle prints `power`, a bad record `bad`, function 0 prints `call - - 4`."
+    ∷ (powers ++ fourth-kind ++ asks 4 0 (zeros 3) prints heading ++ ascii "0 power\n1 bad\n2 call - - 4\nend idle 0\n")
+    -- "The last line is phase in lower case and contexts": the phases that are left
+    ∷ (asks 1 13 [] ++ finishes prints heading ++ ascii "0 call 0 0 8\n1 call 0 0 4\nend verifying 1\n")
+    ∷ (asks 1 13 [] ++ finishes ++ eight-ticks ++ asks 1 16 (le 4 1)
+    prints heading
+    ++ ascii "0 call 0 0 8\n1 call 0 0 4\n2 tick\n3 tick\n4 tick\n5 tick\n6 tick\n7 tick\n8 tick\n9 tick\n10 call 7 3 12\nend failed 1\n")
+    ∷ (asks 1 13 [] ++ sends-image ++ finishes ++ eight-ticks
+    prints heading
+    ++ ascii "0 call 0 0 8\n1 call 0 0 4\n2 call 0 0 4\n3 tick\n4 tick\n5 tick\n6 tick\n7 tick\n8 tick\n9 tick\n10 tick\nend staged 1\n")
+    ∷ []

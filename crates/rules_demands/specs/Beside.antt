@@ -1,0 +1,42 @@
+-- What the page says of one event, beside the demands, written out with none of the words of rules' Beside.antt.
+-- Assumes nothing.
+use Prim.Native.Nat.{ℕ, _≤_}
+use mathlib.Core.Path.{_≡_}
+use mathlib.Core.Logic.{_⊎_}
+use mathlib.Core.Bool.{true}
+use mathlib.Core.List.{List}
+use lib.ListN.{length}
+use Rattle.rules.specs.Record.{possible, Module}
+use Rattle.rules.specs.Refusals.{verdict}
+use Rattle.rules.specs.Security.{GetSecurityState, SetPassphrase, Disable, Unlock, Freeze, securityChecks}
+use Rattle.rules.specs.Module.{call, tick, power, step}
+use Rattle.rules.specs.declared.Refusal.{Refusal}
+use Rattle.rules.specs.declared.Refusal.the-variants.{Status}
+use Rattle.rules.specs.declared.Verdict.the-variants.{Accepted, Refused}
+use Rattle.rules.specs.declared.Phase.the-variants.{Staged}
+use Rattle.rules.specs.declared.Security.{Security}
+
+-- nothing but an accepted call of function 14 changes the area
+pub record AreaWrittenOut (m : Module) : Type 0 where
+  pub over-a-tick : step m tick .after .area ≡ m .area
+  pub over-a-power-cycle : step m power .after .area ≡ m .area
+  pub over-other-functions : (host revision index : ℕ) (request buffer : List ℕ) → (index ≡ 14 → ⊥)
+      → step m (call host revision index request buffer) .after .area ≡ m .area
+  pub over-refusals : (host revision index : ℕ) (request buffer : List ℕ) (refusal : Refusal)
+      → step m (call host revision index request buffer) .reply .verdict ≡ Refused refusal
+      → step m (call host revision index request buffer) .after .area ≡ m .area
+
+-- frozen, or with ten attempts: 10 to four of the five calls, whatever they carry
+pub record FrozenWrittenOut (s : Security) : Type 0 where
+  pub state-told : verdict (securityChecks s GetSecurityState) ≡ Accepted
+  pub set-10 : (current new : List ℕ) → verdict (securityChecks s (SetPassphrase current new)) ≡ Refused (Status 10 0)
+  pub disable-10 : (current : List ℕ) → verdict (securityChecks s (Disable current)) ≡ Refused (Status 10 0)
+  pub unlock-10 : (current : List ℕ) → verdict (securityChecks s (Unlock current)) ≡ Refused (Status 10 0)
+  pub freeze-10 : verdict (securityChecks s Freeze) ≡ Refused (Status 10 0)
+
+pub record BesideWrittenOut : Type 0 where
+  pub area : (m : Module) → AreaWrittenOut m
+  pub frozen : (s : Security) → (s .frozen ≡ true) ⊎ (s .attempts ≡ 10) → FrozenWrittenOut s
+  pub taken-over : (m : Module) → possible (m .device) ≡ true → m .device .transfer .contexts ≤ 4294967295 → length (m .area) ≡ 16384
+      → m .device .transfer .phase ≡ Staged
+      → step m power .after .device .transfer .running ≡ m .device .transfer .staged

@@ -1,0 +1,119 @@
+-- Demand 1 written out, with none of the words of rules' Demand1.antt: what a call comes to, for each verdict, as one result; which numbers there are; and what
+-- every event keeps. `demand_1` promises both, this one proved from that one, so that a line of Demand1.antt that says less no longer gives it.
+-- Assumes nothing.
+use Prim.Native.Nat.{ℕ, _+_, _-_, _<_}
+use mathlib.Core.Path.{_≡_}
+use mathlib.Core.Logic.{_⊎_, _↔_}
+use mathlib.Core.Bool.{true, not, _||_}
+use mathlib.Core.List.{List, [], _∷_, _++_}
+use lib.ListN.{length, take, drop}
+use Rattle.rules.specs.Tests.{if_then_else_, _=?_, _<?_}
+use Rattle.rules.specs.Bytes.{le, zeros}
+use Rattle.rules.specs.With.{_with-attempts_, _with-security_}
+use Rattle.rules.specs.Record.{fresh, possible, Module, moduleOf}
+use Rattle.rules.specs.Refusals.{_gives_, verdict}
+use Rattle.rules.specs.Table.{rowOf, servedCheck, lengthCheck}
+use Rattle.rules.specs.Module.{Result, reply, callIn, checks, callResult, Event, call, tick, power, step}
+use Rattle.rules.specs.declared.Refusal.{Refusal}
+use Rattle.rules.specs.declared.Refusal.the-variants.{R, Status}
+use Rattle.rules.specs.declared.Verdict.the-variants.{Accepted, Refused}
+
+-- bytes over the front of a buffer
+abbrev pub overFront : (bytes buffer : List ℕ) → List ℕ
+overFront bytes buffer = bytes ++ drop (length bytes) buffer
+
+-- how many bytes a status answers, for a function whose answer has n
+abbrev pub bytesTold : (status n : ℕ) → ℕ
+bytesTold status n =
+    if status =? 1 || status =? 10 || status =? 11 then 4
+    else if status =? 6 then 12
+    else if status =? 8 then 8
+    else n
+
+-- what a status leaves: the module as it was, but for one more attempt after a wrong passphrase
+abbrev pub leftBy : (status : ℕ) → Module → Module
+leftBy status m =
+    if status =? 11 then moduleOf (m .device with-security (m .device .security with-attempts (m .device .security .attempts + 1))) (m .area)
+    else m
+
+-- an accepted call's bytes
+pub record Served (index : ℕ) (buffer : List ℕ) (result : Result) : Type 0 where
+  pub bytes : List ℕ
+  pub filled : result .answer ≡ overFront bytes buffer
+  pub size : length bytes ≡ rowOf index .answer
+  pub told : result .reply .length ≡ rowOf index .answer
+  pub status-0 : (index ≡ 0 → ⊥) → take 4 bytes ≡ 0 ∷ 0 ∷ 0 ∷ 0 ∷ []
+
+pub record CallWrittenOut (m : Module) (revision index : ℕ) (request buffer : List ℕ) : Type 0 where
+  -- the first row that is true decides, in the page's order
+  pub judged : callResult m revision index request buffer .reply .verdict
+      ≡ verdict
+      ((length buffer <? 64 gives R 1)
+      ∷ (not (length (m .area) =? 16384) gives R 2)
+      ∷ (not (possible (m .device)) gives R 3)
+      ∷ servedCheck revision index
+      ∷ lengthCheck index request
+      ∷ checks m (callIn revision index request))
+  -- an R number: nothing is written and nothing changes
+  pub by-R : (number : ℕ) → callResult m revision index request buffer .reply .verdict ≡ Refused (R number)
+      → callResult m revision index request buffer ≡ record { reply = reply (Refused (R number)) 0; after = m; answer = buffer }
+  -- a status: it is written, with its extended number and zeros, and nothing changes but an attempt
+  pub by-status : (status ext : ℕ) → callResult m revision index request buffer .reply .verdict ≡ Refused (Status status ext)
+      → callResult m revision index request buffer
+      ≡ record {
+        reply = reply (Refused (Status status ext)) (bytesTold status (rowOf index .answer));
+        after = leftBy status m;
+        answer = overFront (le 2 status ++ le 2 ext ++ zeros (bytesTold status (rowOf index .answer) - 4)) buffer;
+      }
+  pub served : callResult m revision index request buffer .reply .verdict ≡ Accepted
+      → Served index buffer (callResult m revision index request buffer)
+
+-- the numbers of the page's table
+abbrev pub numbersOfThePage : List Refusal
+numbersOfThePage =
+    R 1
+    ∷ R 2
+    ∷ R 3
+    ∷ Status 1 0
+    ∷ Status 3 0
+    ∷ Status 6 0
+    ∷ Status 7 1
+    ∷ Status 7 2
+    ∷ Status 7 3
+    ∷ Status 7 4
+    ∷ Status 8 0
+    ∷ Status 10 0
+    ∷ Status 11 0
+    ∷ []
+
+abbrev pub OneOf : List Refusal → Refusal → Type 0
+OneOf [] refusal = ⊥
+OneOf (number ∷ numbers) refusal = (refusal ≡ number) ⊎ OneOf numbers refusal
+
+-- some call is refused by this number
+abbrev pub IsGiven : Refusal → Type 0
+IsGiven refusal =
+    (m : Module)
+    × (revision : ℕ)
+    × (index : ℕ)
+    × (request : List ℕ)
+    × (buffer : List ℕ)
+    × (callResult m revision index request buffer .reply .verdict ≡ Refused refusal)
+
+-- the event is a call with a buffer of less than 64 bytes
+abbrev pub LendsTooLittle : Event → Type 0
+LendsTooLittle (call host revision index request buffer) = length buffer < 64
+LendsTooLittle tick = ⊥
+LendsTooLittle power = ⊥
+
+pub record EventWrittenOut (m : Module) (event : Event) : Type 0 where
+  pub stays-possible : possible (step m event .after .device) ≡ true
+  pub stays-long : length (step m event .after .area) ≡ 16384
+  pub R1-alone : (number : ℕ) → step m event .reply .verdict ≡ Refused (R number) → (number ≡ 1) × LendsTooLittle event
+
+pub record Demand1WrittenOut : Type 0 where
+  pub calls : (m : Module) (revision index : ℕ) (request buffer : List ℕ) → CallWrittenOut m revision index request buffer
+  -- a number is given exactly when it is in the page's table
+  pub numbers : (refusal : Refusal) → IsGiven refusal ↔ OneOf numbersOfThePage refusal
+  pub events : (m : Module) (event : Event) → possible (m .device) ≡ true → length (m .area) ≡ 16384 → EventWrittenOut m event
+  pub begins-possible : possible fresh ≡ true

@@ -1,0 +1,180 @@
+-- Demand 3 written out, with none of the words of rules' Demand3.antt and of what it uses, over the words of Words.antt. `demand_3` promises both, this one
+-- proved from that one, so that a line there that says less no longer gives it.
+-- Assumes nothing.
+use Prim.Native.Nat.{ℕ, _≤_, _<_}
+use mathlib.Core.Path.{_≡_}
+use mathlib.Core.Logic.{_⊎_, _↔_}
+use mathlib.Core.Bool.{true}
+use mathlib.Core.List.{List, _∷_}
+use lib.ListN.{length, take}
+use Rattle.rules.specs.Record.{fresh, possible, Module, moduleOf}
+use Rattle.rules.specs.Image.{imageOf}
+use Rattle.rules.specs.Module.{Event, tick, step}
+use Rattle.rules.specs.History.{All, _and-then_}
+use Rattle.rules.specs.Transfers.{Exchange, History, Kind, Started, Sent, Finished, Ticked, Powered, Other}
+use Rattle.rules.specs.declared.Image.the-variants.{Good}
+use Rattle.rules.specs.declared.Phase.the-variants.{Staged}
+use Rattle.rules_demands.specs.Words.{what, remaining, sendsWith, othersThan, joined, ticks, powers, eventsOf, comesTo, answersTo, honest?}
+
+-- the module after a history, and the bytes of its area that are received
+abbrev pub after : Module → History → Module
+after m h = comesTo m (eventsOf h)
+
+abbrev pub receivedBy : Module → List ℕ
+receivedBy m = take (m .device .transfer .received) (m .area)
+
+-- k's events make k, and come to the end to which h's come
+pub record SameWrittenOut (m : Module) (h k : History) : Type 0 where
+  pub answers : answersTo m (eventsOf k) ≡ k
+  pub ends : after m k ≡ after m h
+
+-- a transfer of h: its Start, what stands between, its Finish
+pub record TransferIn (h : History) : Type 0 where
+  pub before : History
+  pub start : Exchange
+  pub between : History
+  pub finish : Exchange
+  pub since : History
+  pub starter : ℕ
+  pub finisher : ℕ
+  pub context : ℕ
+  pub flag : ℕ
+  pub whole : h ≡ before and-then start ∷ between and-then finish ∷ since
+  pub starts : what start ≡ Started starter context
+  pub finishes : what finish ≡ Finished finisher context flag
+
+-- with its Start and its own Sends behind the others
+abbrev pub movedTo : {h : History} → TransferIn h → History
+movedTo f =
+    f .before
+    and-then othersThan (f .context) (f .between)
+    and-then f .start ∷ sendsWith (f .context) (f .between)
+    and-then f .finish ∷ f .since
+
+-- so many such moves, one after another
+pub data Moves (h : History) : History → Type 0 where
+  no-move : Moves h h
+  and-move : {k : History} → Moves h k → (f : TransferIn k) → Moves h (movedTo f)
+
+pub record RearrangedWrittenOut (m : Module) (h : History) : Type 0 where
+  pub k : History
+  pub by-moves : Moves h k
+  pub unbroken : (f : TransferIn h)
+      → (ahead : History) × (behind : History) × (k ≡ ahead and-then f .start ∷ sendsWith (f .context) (f .between) and-then f .finish ∷ behind)
+  pub same : SameWrittenOut m h k
+
+-- The transfer of a host with a context is open after h: its Start is in h, and no Start, no Finish and no power cycle came since.
+abbrev pub LeavesOpen : Kind → Type 0
+LeavesOpen (Started host context) = ⊥
+LeavesOpen (Sent host context offset piece) = Unit {0}
+LeavesOpen (Finished host context flag) = ⊥
+LeavesOpen Ticked = Unit {0}
+LeavesOpen Powered = ⊥
+LeavesOpen Other = Unit {0}
+
+pub record OpenAfter (h : History) (starter context : ℕ) : Type 0 where
+  pub earlier : History
+  pub start : Exchange
+  pub since : History
+  pub stands : h ≡ earlier and-then start ∷ since
+  pub starts : what start ≡ Started starter context
+  pub undisturbed : All (λ x. LeavesOpen (what x)) since
+
+-- A Start comes where no transfer is open; a Send and a Finish where the one with their context is, a Send where its last one stopped.
+pub record OneAfterAnotherWrittenOut (h : History) : Type 0 where
+  pub starts : (before since : History) (x : Exchange) (host context : ℕ) → h ≡ before and-then x ∷ since → what x ≡ Started host context
+      → (starter other : ℕ) → OpenAfter before starter other → ⊥
+  pub sends : (before since : History) (x : Exchange) (host context offset : ℕ) (piece : List ℕ) → h ≡ before and-then x ∷ since
+      → what x ≡ Sent host context offset piece
+      → (starter : ℕ) × (now : OpenAfter before starter context) × (offset ≡ length (joined (now .since)))
+  pub finishes : (before since : History) (x : Exchange) (host context flag : ℕ) → h ≡ before and-then x ∷ since
+      → what x ≡ Finished host context flag
+      → (starter : ℕ) × OpenAfter before starter context
+
+-- A Send and a Finish are by the host whose transfer is open.
+abbrev pub Sends : Exchange → (host : ℕ) → Type 0
+Sends x host = (context : ℕ) × (offset : ℕ) × (piece : List ℕ) × (what x ≡ Sent host context offset piece)
+
+abbrev pub Finishes : Exchange → (host : ℕ) → Type 0
+Finishes x host = (context : ℕ) × (flag : ℕ) × (what x ≡ Finished host context flag)
+
+abbrev pub FromOneHostWrittenOut : History → Type 0
+FromOneHostWrittenOut h =
+    (before since : History) (x : Exchange) (host : ℕ) → h ≡ before and-then x ∷ since → Sends x host ⊎ Finishes x host
+    → (starter context : ℕ) → OpenAfter before starter context → host ≡ starter
+
+-- what an event stages: the module is Staged with the version, and was not
+pub record StagesWrittenOut (m : Module) (event : Event) (version : ℕ) : Type 0 where
+  pub not-yet : m .device .transfer .phase ≡ Staged → m .device .transfer .staged ≡ version → ⊥
+  pub staged : step m event .after .device .transfer .phase ≡ Staged
+  pub version-is : step m event .after .device .transfer .staged ≡ version
+
+-- seven ticks and no power cycle have come since a good image's Finish
+pub record DueWrittenOut (h : History) (version : ℕ) : Type 0 where
+  pub transfer : TransferIn h
+  pub finish-0 : transfer .flag ≡ 0
+  pub good : imageOf (joined (sendsWith (transfer .context) (transfer .between))) ≡ Good version
+  pub seven : ticks (transfer .since) ≡ 7
+  pub powered : powers (transfer .since) ≡ 0
+
+-- Of every possible module, whatever contexts the hosts use: h is the history, and r what remains of it.
+pub record FromAnywhereWrittenOut (m : Module) (h r : History) : Type 0 where
+  pub struck : SameWrittenOut m h r
+  pub moved : (f : TransferIn r) → SameWrittenOut m r (movedTo f)
+  pub rearranged : RearrangedWrittenOut m r
+  pub once : (before between : History) (x : Exchange) (event : Event) (first second : ℕ)
+      → h ≡ before and-then x ∷ between
+      → StagesWrittenOut (after m before) (x .event) first
+      → StagesWrittenOut (after m h) event second
+      → 1 ≤ powers between
+  pub waits : (before between since : History) (x y : Exchange) (host other finished started : ℕ)
+      → r ≡ before and-then x ∷ between and-then y ∷ since
+      → what x ≡ Finished host finished 0
+      → what y ≡ Started other started
+      → (8 ≤ ticks between) ⊎ (1 ≤ powers between)
+  pub higher : (before between since : History) (x y : Exchange) (host other first second : ℕ)
+      → r ≡ before and-then x ∷ between and-then y ∷ since
+      → what x ≡ Started host first
+      → what y ≡ Started other second
+      → first < second
+
+-- Of a fresh module, whatever contexts the hosts use.
+pub record WithAnyHostsWrittenOut (m : Module) (h r : History) : Type 0 where
+  pub in-turn : OneAfterAnotherWrittenOut r
+  pub received : (f : TransferIn r)
+      → receivedBy (after m (f .before and-then f .start ∷ f .between)) ≡ joined (sendsWith (f .context) (f .between))
+  pub staged : (event : Event) (version : ℕ) → StagesWrittenOut (after m h) event version ↔ ((event ≡ tick) × DueWrittenOut r version)
+  pub as-sent : (version : ℕ) (due : DueWrittenOut r version)
+      → receivedBy (step (after m h) tick .after) ≡ joined (sendsWith (due .transfer .context) (due .transfer .between))
+
+-- Of a fresh module and honest hosts.
+pub record WithHonestHostsWrittenOut (r : History) : Type 0 where
+  pub one-host : FromOneHostWrittenOut r
+  pub one-finisher : (f : TransferIn r) → f .finisher ≡ f .starter
+  pub one-sender : (f : TransferIn r) (ahead behind : History) (x : Exchange) (sender offset : ℕ) (piece : List ℕ)
+      → f .between ≡ ahead and-then x ∷ behind
+      → what x ≡ Sent sender (f .context) offset piece
+      → sender ≡ f .starter
+
+-- all of it
+pub record AllWrittenOut (m : Module) (h r : History) : Type 0 where
+  pub anywhere : FromAnywhereWrittenOut m h r
+  pub any-hosts : WithAnyHostsWrittenOut m h r
+  pub honest-hosts : WithHonestHostsWrittenOut r
+
+-- What events come to, from a module: the history, and what remains of it.
+abbrev pub Of : (Module → History → History → Type 0) → Module → List Event → Type 0
+Of Promise m events = Promise m (answersTo m events) (remaining (answersTo m events))
+
+pub record Demand3WrittenOut : Type 0 where
+  pub demanded : (area : List ℕ) → length area ≡ 16384 → (events : List Event)
+      → honest? (answersTo (moduleOf fresh area) events) ≡ true
+      → Of AllWrittenOut (moduleOf fresh area) events
+  -- only what remains need be honest
+  pub of-what-remains : (area : List ℕ) → length area ≡ 16384 → (events : List Event)
+      → honest? (remaining (answersTo (moduleOf fresh area) events)) ≡ true
+      → Of AllWrittenOut (moduleOf fresh area) events
+  pub with-any-hosts : (area : List ℕ) → length area ≡ 16384 → (events : List Event)
+      → Of WithAnyHostsWrittenOut (moduleOf fresh area) events
+  pub from-anywhere : (m : Module) → possible (m .device) ≡ true → m .device .transfer .contexts ≤ 4294967295 → length (m .area) ≡ 16384
+      → (events : List Event) → Of FromAnywhereWrittenOut m events

@@ -1,0 +1,8 @@
+-- The demands a second time, written out: each promise of rules with none of its own words, and proved from it. Nobody has to read them for the demands, which
+-- are rules' Demand1.antt and Demand3.antt; they are here so that none of those can come to say less unseen (docs/DECISIONS.md, p).
+pub mod Calls
+pub mod Words
+pub mod Histories
+pub mod Beside
+-- What the lists of cases and of texts must have.
+pub mod Examples
