@@ -4,7 +4,7 @@ ghost use Prim.Native.Nat.{_≤_};
 ghost use lib.IntN.{pos};
 ghost use lib.ListN.{length};
 ghost use Rattle.rules.specs.Module.{callResult, tickResult, powerResult};
-ghost use Rattle.device_encode.specs.Encoding.{encodeOf, decodeOf};
+ghost use Rattle.device_bytes.specs.Encoding.{encodeOf, decodeOf};
 ghost use Rattle.abi.specs.Abi.{refusal, told, keptBy, Called, Happened, Made, Keepable};
 use module::Outcome;
 use rules::Device;

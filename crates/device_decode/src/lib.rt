@@ -2,7 +2,7 @@
 ghost use mathlib.Core.Path.{_≡_};
 ghost use lib.ListN.{length, take, drop};
 ghost use Rattle.rules.specs.Bytes.{zeros?};
-ghost use Rattle.device_encode.specs.Encoding.{phaseOf, record?, recordOf, impossible, decodeOf};
+ghost use Rattle.device_bytes.specs.Encoding.{phaseOf, record?, recordOf, impossible, decodeOf};
 use rules::Device;
 use rules::Phase;
 use rules::Security;
