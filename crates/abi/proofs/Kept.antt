@@ -23,8 +23,8 @@ use Rattle.rules.proofs.page.Past.{NoR, not-by-event, event-passed, call-passed
 use Rattle.rules.proofs.page.Fitting.{answers}
 use Rattle.module.specs.Promise.{Promised}
 use Rattle.module.specs.declared.Outcome.{Outcome}
-use Rattle.device_encode.specs.Encoding.{encodedSize, encodeOf, decodeOf}
-use Rattle.device_encode.proofs.Refused.{possible-whole}
+use Rattle.device_bytes.specs.Encoding.{encodedSize, encodeOf, decodeOf}
+use Rattle.device_bytes.proofs.Refused.{possible-whole}
 use Rattle.abi.specs.Abi.{toldBy, told, keptBy, kept, Called, Happened, Sized, Keepable}
 
 -- a verdict that is known settles the number and the bytes

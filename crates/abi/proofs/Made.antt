@@ -9,7 +9,7 @@ use lib.ListN.{length}
 use borrow.Author.Tests.{eq-eqb, ne-eqb}
 use Rattle.rules.specs.Tests.{if_then_else_}
 use Rattle.rules.specs.Record.{fresh}
-use Rattle.device_encode.specs.Encoding.{encodedSize, encodeOf}
+use Rattle.device_bytes.specs.Encoding.{encodedSize, encodeOf}
 use Rattle.abi.specs.Abi.{refusal, Made}
 
 pub made : (bytes : List ℕ) {number : ℤ} {bytes′ : List ℕ} → length bytes ≡ encodedSize → number ≡ pos 0 → bytes′ ≡ encodeOf fresh → Made bytes number bytes′

@@ -6,7 +6,7 @@ ghost use lib.ListN.{length};
 ghost use Rattle.rules.specs.Numbers.{answerRoom};
 ghost use Rattle.rules.specs.Record.{moduleOf};
 ghost use Rattle.rules.specs.Module.{callResult, tickResult, powerResult};
-ghost use Rattle.device_encode.specs.Encoding.{encodedSize, encodeOf, decodeOf};
+ghost use Rattle.device_bytes.specs.Encoding.{encodedSize, encodeOf, decodeOf};
 ghost use Rattle.device_slots.specs.Slots.{freshNumber, freshSlots, writeNumber, writeSlots, selectNumber, selectSlots, readNumber, readRecord};
 ghost use Rattle.abi.specs.Abi.{refusal, told, keptBy, Called, Happened, Made, Keepable};
 use device_encode::ENCODED_SIZE;

@@ -8,7 +8,7 @@ use lib.Dec.{leb, eqb}
 use lib.ListN.{length, take, drop}
 use Rattle.rules.specs.Bytes.{numberAt, zeros?}
 use Rattle.rules.specs.declared.Phase.{Phase}
-use Rattle.device_encode.specs.Encoding.{phaseOf, record?, recordOf}
+use Rattle.device_bytes.specs.Encoding.{phaseOf, record?, recordOf}
 
 pub tested : (s : List ℕ) {phase enabled locked frozen unused : ℕ} {between after : Bool} → length s ≡ 128
     → phase ≡ numberAt 1 0 s → enabled ≡ numberAt 1 1 s → locked ≡ numberAt 1 2 s → frozen ≡ numberAt 1 3 s → unused ≡ numberAt 1 33 s

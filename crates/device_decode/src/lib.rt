@@ -2,7 +2,7 @@
 ghost use mathlib.Core.Path.{_≡_};
 ghost use lib.ListN.{length, take, drop};
 ghost use Rattle.rules.specs.Bytes.{zeros?};
-ghost use Rattle.device_encode.specs.Encoding.{encodedSize, phaseOf, record?, recordOf, impossible, decodeOf};
+ghost use Rattle.device_bytes.specs.Encoding.{encodedSize, phaseOf, record?, recordOf, impossible, decodeOf};
 use device_encode::ENCODED_SIZE;
 use rules::Device;
 use rules::Phase;

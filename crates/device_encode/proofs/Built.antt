@@ -8,7 +8,7 @@ use lib.ListN.{length}
 use mir.Val.{boolByte}
 use Rattle.rules.specs.Bytes.{splice}
 use Rattle.bytes_base.proofs.Parts.{splice-splice}
-use Rattle.device_encode.specs.Encoding.{flag}
+use Rattle.device_bytes.specs.Encoding.{flag}
 
 -- a flag's byte, as the code makes it of the flag
 pub flag-byte : (on : Bool) → boolByte on ≡ flag on

@@ -1,6 +1,1 @@
 pub mod Built
-pub mod Fine
-pub mod Back
-pub mod Range
-pub mod Refused
-pub mod Again

@@ -1,10 +1,10 @@
-// The device record as 128 bytes: specs/Encoding.antt has the places. Crate `device_decode` reads them back.
+// The device record written as 128 bytes: crates/device_bytes has the places, crates/device_decode reads them back.
 // Every byte is written once, in the order of the places, and none is cleared first.
 ghost use mathlib.Core.Path.{_≡_};
 ghost use mathlib.Core.List.{_++_};
 ghost use lib.ListN.{length};
 ghost use Rattle.rules.specs.Bytes.{splice, zeros};
-ghost use Rattle.device_encode.specs.Encoding.{encodedSize, stateBytes, firstBytes, transferBytes, encodedThresholds, encodeOf};
+ghost use Rattle.device_bytes.specs.Encoding.{encodedSize, stateBytes, firstBytes, transferBytes, encodedThresholds, encodeOf};
 use rules::Device;
 use rules::Security;
 use rules::Thresholds;

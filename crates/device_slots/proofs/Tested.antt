@@ -18,7 +18,7 @@ use Rattle.rules.specs.Bytes.{le, splice, zeros}
 use Rattle.rules.specs.Record.{fresh}
 use Rattle.rules.proofs.page.Choice.{and-true}
 use Rattle.bytes_base.proofs.Parts.{lent, splice-splice, copy-whole}
-use Rattle.device_encode.specs.Encoding.{encodedSize, encodeOf}
+use Rattle.device_bytes.specs.Encoding.{encodedSize, encodeOf}
 use Rattle.device_slots.specs.Slots.{slotsSize, slotPlace, slot, selector, other, slots?, refused, freshNumber, freshSlots, writeNumber, writeSlots, selectNumber, selectSlots, readNumber, readRecord}
 
 pub record Fine (slots : List ℕ) : Type 0 where

@@ -14,7 +14,7 @@ use Rattle.rules.specs.Tests.{if_then_else_, _≤?_, _=?_}
 use Rattle.rules.specs.Bytes.{splice, zeros}
 use Rattle.rules.specs.Record.{fresh}
 use Rattle.rules.proofs.page.Choice.{and-true}
-use Rattle.device_encode.specs.Encoding.{encodedSize, encodeOf}
+use Rattle.device_bytes.specs.Encoding.{encodedSize, encodeOf}
 use Rattle.device_slots.specs.Slots.{slotsSize, slotPlace, slot, selector, other, slots?, refused, writable, writeNumber, writeSlots, selectable, selectNumber, selectSlots}
 use Rattle.device_slots.specs.Torn.{Torn, Reads, WriteLeaves, WriteKeeps, SelectWhole, SelectOnce, SelectGives, FreshReads, NoSlots, Updates}
 use Rattle.device_slots.proofs.Tested.{Fine, fine, are-slots, fresh-long}

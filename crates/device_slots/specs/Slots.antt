@@ -9,7 +9,7 @@ use lib.ListN.{length, getD, take, drop}
 use Rattle.rules.specs.Tests.{if_then_else_, _≤?_, _=?_}
 use Rattle.rules.specs.Bytes.{splice, zeros}
 use Rattle.rules.specs.Record.{fresh}
-use Rattle.device_encode.specs.Encoding.{encodedSize, encodeOf}
+use Rattle.device_bytes.specs.Encoding.{encodedSize, encodeOf}
 
 -- the bytes of both slots and of the selector
 abbrev pub slotsSize : ℕ

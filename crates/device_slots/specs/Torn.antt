@@ -9,7 +9,7 @@ use Prim.Native.Nat.{ℕ}
 use lib.IntN.{pos}
 use lib.ListN.{length, getD, drop}
 use Rattle.rules.specs.Record.{fresh}
-use Rattle.device_encode.specs.Encoding.{encodedSize, encodeOf}
+use Rattle.device_bytes.specs.Encoding.{encodedSize, encodeOf}
 use Rattle.device_slots.specs.Slots.{slotsSize, slot, selector, slots?, refused, freshNumber, freshSlots, writeNumber, writeSlots, selectNumber, selectSlots, readNumber, readRecord}
 
 -- What power left of a write: whatever part of it reached memory, in whatever order, each byte is as it was before the write or as it is after it.

@@ -3,7 +3,7 @@
 use Rattle.abi.proofs.Numbers.{passed-on}
 use Rattle.abi.proofs.Made.{made, not-made}
 use mathlib.Core.Path.{_∙_, ap}
-use Rattle.device_encode.specs.Encoding.{encodeOf}
+use Rattle.device_bytes.specs.Encoding.{encodeOf}
 use borrow.Author.Needs.{needs}
 use Rattle.abi.proofs.module_fresh.Statement.{statement}
 use Rattle.abi.proofs.module_fresh.Tie as tie

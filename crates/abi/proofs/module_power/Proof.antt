@@ -1,7 +1,7 @@
 -- `abi::module_power` meets its contract. The module's promise for the decoded record, kept in the bytes (proofs/Kept.antt).
 -- Assumes nothing.
 use Rattle.abi.proofs.Numbers.{passed-on}
-use Rattle.device_encode.specs.Encoding.{decodeOf}
+use Rattle.device_bytes.specs.Encoding.{decodeOf}
 use Rattle.rules.specs.declared.Device.{Device}
 use Rattle.rules.specs.Record.{moduleOf}
 use Rattle.rules.specs.Module.{powerResult}

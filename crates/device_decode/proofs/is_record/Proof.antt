@@ -1,7 +1,7 @@
 -- `device_decode::is_record` meets its contract. The tests are the definition's, over bytes that were read (proofs/Decoded.antt).
 -- Assumes nothing.
 use borrow.Author.Tests.{ne-eqb}
-use Rattle.device_encode.specs.Encoding.{record?}
+use Rattle.device_bytes.specs.Encoding.{record?}
 use Rattle.device_decode.proofs.Decoded.{tested}
 use borrow.Author.Needs.{needs}
 use Rattle.device_decode.proofs.is_record.Statement.{statement}

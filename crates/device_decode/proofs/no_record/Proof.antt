@@ -4,7 +4,7 @@ use mathlib.Core.Path.{ap}
 use Rattle.rules.specs.With.{_with-transfer_, _with-phase_}
 use Rattle.rules.specs.declared.Phase.the-variants.{Failed}
 use Rattle.rules.specs.declared.Device.{Device}
-use Rattle.device_encode.specs.Encoding.{impossible}
+use Rattle.device_bytes.specs.Encoding.{impossible}
 use borrow.Author.Needs.{needs}
 use Rattle.device_decode.proofs.no_record.Statement.{statement}
 use Rattle.device_decode.proofs.no_record.Tie as tie

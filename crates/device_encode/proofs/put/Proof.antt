@@ -5,10 +5,10 @@ use mathlib.Core.List.{_++_}
 use native.Mathlib.Omega.{arith}
 use Rattle.rules.specs.Bytes.{zeros}
 use Rattle.bytes_base.proofs.Parts.{copy-whole}
-use Rattle.device_encode.specs.Encoding.{firstBytes, transferBytes, encodedThresholds, encodeOf}
+use Rattle.device_bytes.specs.Encoding.{firstBytes, transferBytes, encodedThresholds, encodeOf}
 use Rattle.device_encode.proofs.Built.{Placed, then}
-use Rattle.device_encode.proofs.Back.{long}
-use Rattle.device_encode.proofs.Range.{in-range}
+use Rattle.device_bytes.proofs.Back.{long}
+use Rattle.device_bytes.proofs.Range.{in-range}
 use borrow.Author.Needs.{needs}
 use Rattle.device_encode.proofs.put.Statement.{statement}
 use Rattle.device_encode.proofs.put.Tie as tie

@@ -6,7 +6,7 @@ use native.Mathlib.Omega.{arith}
 use Rattle.rules.specs.Bytes.{le, splice}
 use Rattle.rules.specs.Record.{phaseNumber}
 use Rattle.device_encode.proofs.Built.{Placed, then}
-use Rattle.device_encode.specs.Encoding.{stateBytes}
+use Rattle.device_bytes.specs.Encoding.{stateBytes}
 use borrow.Author.Needs.{needs}
 use Rattle.device_encode.proofs.put_first.Statement.{statement}
 use Rattle.device_encode.proofs.put_first.Tie as tie

@@ -5,7 +5,7 @@ use Prim.Native.Nat.{ℕ, _+_}
 use native.Mathlib.Omega.{arith}
 use Rattle.rules.specs.Bytes.{zeros, splice}
 use Rattle.device_encode.proofs.Built.{Placed, then}
-use Rattle.device_encode.proofs.Range.{passphrase-long}
+use Rattle.device_bytes.proofs.Range.{passphrase-long}
 use borrow.Author.Needs.{needs}
 use Rattle.device_encode.proofs.put_passphrase.Statement.{statement}
 use Rattle.device_encode.proofs.put_passphrase.Tie as tie

@@ -5,7 +5,7 @@ use mathlib.Core.List.{_∷_, _++_}
 use lib.ListN.{set}
 use Rattle.rules.specs.Bytes.{zeros}
 use Rattle.rules.specs.Record.{fresh}
-use Rattle.device_encode.specs.Encoding.{encodeOf}
+use Rattle.device_bytes.specs.Encoding.{encodeOf}
 use Rattle.device_slots.proofs.Tested.{not-fresh, made, fresh-whole, fresh-length}
 use borrow.Author.Needs.{needs}
 use Rattle.device_slots.proofs.fresh.Statement.{statement}

@@ -16,8 +16,8 @@ use Rattle.rules.specs.Refusals.{oneAttemptMore}
 use Rattle.rules.specs.declared.Device.{Device}
 use Rattle.rules.proofs.page.Choice.{and-true}
 use Rattle.bytes_numbers.proofs.Bytes.{Bytes, bytes-drop, bytes-take}
-use Rattle.device_encode.specs.Encoding.{flag, encodeOf, phaseOf, record?, recordOf, decodeOf}
-use Rattle.device_encode.proofs.Fine.{Fine, fine}
+use Rattle.device_bytes.specs.Encoding.{flag, encodeOf, phaseOf, record?, recordOf, decodeOf}
+use Rattle.device_bytes.proofs.Fine.{Fine, fine}
 
 -- what a list's number is written as is the list
 le-ofLe : (l : List ℕ) → Bytes l → le (length l) (ofLe l) ≡ l

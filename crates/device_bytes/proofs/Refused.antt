@@ -6,8 +6,8 @@ use mathlib.Core.List.{List}
 use Prim.Native.Nat.{ℕ}
 use lib.ListN.{length}
 use Rattle.rules.specs.Record.{possible, possibleTransfer}
-use Rattle.device_encode.specs.Encoding.{encodedSize, record?, impossible, decodeOf}
-use Rattle.device_encode.proofs.Fine.{fine}
+use Rattle.device_bytes.specs.Encoding.{encodedSize, record?, impossible, decodeOf}
+use Rattle.device_bytes.proofs.Fine.{fine}
 
 pub none-possible : possible impossible ≡ false
 unfolding possible possibleTransfer impossible

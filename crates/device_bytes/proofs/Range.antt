@@ -17,7 +17,7 @@ use Rattle.rules.proofs.Thresholds as H
 use Rattle.rules.proofs.Thresholds.Laws as H′
 use Rattle.rules.proofs.Security as S
 use Rattle.rules.proofs.Security.Laws as S′
-use Rattle.device_encode.proofs.Back.{InRange}
+use Rattle.device_bytes.proofs.Back.{InRange}
 
 same-length : (l : List ℕ) → length (map (λ (x : ℕ). x) l) ≡ length l
 same-length [] = refl

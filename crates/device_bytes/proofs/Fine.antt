@@ -8,7 +8,7 @@ use lib.ListN.{length, take, drop}
 use borrow.Author.Tests.{eqb-true, leb-true}
 use Rattle.rules.specs.Bytes.{numberAt, zeros?}
 use Rattle.rules.proofs.page.Choice.{and-true}
-use Rattle.device_encode.specs.Encoding.{record?}
+use Rattle.device_bytes.specs.Encoding.{record?}
 
 pub record Fine (s : List ℕ) : Type 0 where
   pub long : length s ≡ 128

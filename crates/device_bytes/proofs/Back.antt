@@ -13,7 +13,7 @@ use Rattle.rules.specs.declared.Phase.{Phase}
 use Rattle.rules.specs.declared.Phase.the-variants.{Idle, Receiving, Verifying, Staged, Failed}
 use Rattle.rules.specs.declared.Device.{Device}
 use Rattle.bytes_base.proofs.Le.{ofLe-le}
-use Rattle.device_encode.specs.Encoding.{flag, firstBytes, transferBytes, encodedThresholds, encodeOf, phaseOf, record?, recordOf, decodeOf}
+use Rattle.device_bytes.specs.Encoding.{flag, firstBytes, transferBytes, encodedThresholds, encodeOf, phaseOf, record?, recordOf, decodeOf}
 
 -- what the types say of a record's fields
 pub record InRange (d : Device) : Type 0 where
