@@ -1,4 +1,4 @@
--- What the verdict on an event makes of the number given and of the record's bytes; and that the bytes are 128 wherever no R number was given.
+-- A reply of the module can be kept, since the bytes are 128 wherever no R number was given; and what was kept is what the C function promises.
 -- Assumes nothing.
 use mathlib.Core.Path.{_≡_, refl, sym, _∙_, ap, subst}
 use mathlib.Core.Bool.{Bool, true, false}
@@ -23,30 +23,10 @@ use Rattle.rules.proofs.page.Past.{NoR, not-by-event, event-passed, call-passed
 use Rattle.rules.proofs.page.Fitting.{answers}
 use Rattle.module.specs.Promise.{Promised}
 use Rattle.module.specs.declared.Outcome.{Outcome}
-use Rattle.device_bytes.specs.Encoding.{encodedSize, encodeOf, decodeOf}
+use Rattle.device_bytes.specs.Encoding.{encodedSize, decodeOf}
 use Rattle.device_bytes.proofs.Refused.{possible-whole}
-use Rattle.abi.specs.Abi.{toldBy, told, keptBy, kept, Called, Happened, Sized, Keepable}
-
--- a verdict that is known settles the number and the bytes
-pub settled : (w : Verdict) (reply : Reply) (new : Device) (bytes : List ℕ) {number : ℤ} {bytes′ : List ℕ}
-    → reply .verdict ≡ w → number ≡ toldBy w (reply .length) → bytes′ ≡ keptBy w new bytes
-    → (number ≡ told reply) × (bytes′ ≡ keptBy (reply .verdict) new bytes)
-settled w reply new bytes e p q = (
-  p ∙ ap (λ (v : Verdict). toldBy v (reply .length)) (sym e),
-  q ∙ ap (λ (v : Verdict). keptBy v new bytes) (sym e),
-)
-
--- a refusal by a status: status 11 has the new record in the bytes, any other leaves them
-pub counted : (status ext : ℕ) (new : Device) (bytes : List ℕ) {bytes′ : List ℕ} → (status =? 11) ≡ true → bytes′ ≡ encodeOf new
-    → bytes′ ≡ keptBy (Refused (Status status ext)) new bytes
-counted status ext new bytes e q = q ∙ ap (λ (t : Bool). if t then encodeOf new else bytes) (sym e)
-
-pub not-counted : (status ext : ℕ) (new : Device) (bytes : List ℕ) → (status =? 11) ≡ false → bytes ≡ keptBy (Refused (Status status ext)) new bytes
-not-counted status ext new bytes e = ap (λ (t : Bool). if t then encodeOf new else bytes) (sym e)
-
--- what the reply's verdict says of the bytes, once it is known
-pub sized-by : (w : Verdict) (reply : Reply) (bytes : List ℕ) → reply .verdict ≡ w → Keepable reply bytes → Sized w bytes
-sized-by w reply bytes e k = subst (λ (v : Verdict). Sized v bytes) e (k .sized)
+use Rattle.abi_keep.specs.Kept.{told, keptBy, kept, Keepable}
+use Rattle.abi.specs.Abi.{Called, Happened}
 
 -- an answer with a status is no longer than the function's
 status-short : (status n : ℕ) → n ≤ 44 → statusLength status n ≤ answerRoom

@@ -10,7 +10,8 @@ use borrow.Author.Tests.{eq-eqb, ne-eqb}
 use Rattle.rules.specs.Tests.{if_then_else_}
 use Rattle.rules.specs.Record.{fresh}
 use Rattle.device_bytes.specs.Encoding.{encodedSize, encodeOf}
-use Rattle.abi.specs.Abi.{refusal, Made}
+use Rattle.abi_keep.specs.Kept.{refusal}
+use Rattle.abi.specs.Abi.{Made}
 
 pub made : (bytes : List ℕ) {number : ℤ} {bytes′ : List ℕ} → length bytes ≡ encodedSize → number ≡ pos 0 → bytes′ ≡ encodeOf fresh → Made bytes number bytes′
 made bytes h p q =

@@ -1,43 +1,16 @@
--- What the C functions promise: the number that they give and every buffer at their end, by equations. The record is bytes (crate device_encode); what a call, a tick
--- and a power cycle come to is document 01's (crate rules).
+-- What the C functions promise: the number that they give and every buffer at their end, by equations. The record is bytes (crate device_bytes); what a call,
+-- a tick and a power cycle come to is document 01's (crate rules); what of it is told and kept is abi_keep's.
 -- Assumes nothing.
 use mathlib.Core.Path.{_≡_}
 use mathlib.Core.List.{List}
-use Prim.Native.Nat.{ℕ, _≤_}
-use lib.IntN.{ℤ, pos, negℤ}
+use Prim.Native.Nat.{ℕ}
+use lib.IntN.{ℤ, pos}
 use lib.ListN.{length}
 use Rattle.rules.specs.Tests.{if_then_else_, _=?_}
-use Rattle.rules.specs.Numbers.{answerRoom}
 use Rattle.rules.specs.Record.{fresh}
 use Rattle.rules.specs.Module.{Result}
-use Rattle.rules.specs.declared.Refusal.the-variants.{R, Status}
-use Rattle.rules.specs.declared.Verdict.{Verdict}
-use Rattle.rules.specs.declared.Verdict.the-variants.{Accepted, Refused}
-use Rattle.rules.specs.declared.Reply.{Reply}
-use Rattle.rules.specs.declared.Device.{Device}
 use Rattle.device_bytes.specs.Encoding.{encodedSize, encodeOf}
-
--- R1, R2 and R3 are -1, -2 and -3
-abbrev pub refusal : ℕ → ℤ
-refusal number = negℤ (pos number)
-
--- the number given: the answer's length, or an R number
-abbrev pub toldBy : Verdict → (n : ℕ) → ℤ
-toldBy Accepted n = pos n
-toldBy (Refused (R number)) n = refusal number
-toldBy (Refused (Status status ext)) n = pos n
-
-abbrev pub told : Reply → ℤ
-told reply = toldBy (reply .verdict) (reply .length)
-
--- the record's bytes: what is accepted has the new record in them; a refusal leaves them, but for status 11, which counts an attempt
-abbrev pub keptBy : Verdict → (new : Device) (bytes : List ℕ) → List ℕ
-keptBy Accepted new bytes = encodeOf new
-keptBy (Refused (R number)) new bytes = bytes
-keptBy (Refused (Status status ext)) new bytes = if status =? 11 then encodeOf new else bytes
-
-abbrev pub kept : Result → (bytes : List ℕ) → List ℕ
-kept result bytes = keptBy (result .reply .verdict) (result .after .device) bytes
+use Rattle.abi_keep.specs.Kept.{refusal, told, kept}
 
 -- a call, with the result that the rules give the record in these bytes
 pub record Called (result : Result) (bytes : List ℕ) (number : ℤ) (bytes′ area′ answer′ : List ℕ) : Type 0 where
@@ -55,13 +28,3 @@ pub record Happened (result : Result) (bytes : List ℕ) (number : ℤ) (bytes�
 pub record Made (bytes : List ℕ) (number : ℤ) (bytes′ : List ℕ) : Type 0 where
   pub number-is : number ≡ (if length bytes =? encodedSize then pos 0 else refusal 3)
   pub record-is : bytes′ ≡ (if length bytes =? encodedSize then encodeOf fresh else bytes)
-
--- what the work behind them may count on: where no R number was given the record has its bytes, and the length fits the number given
-abbrev pub Sized : Verdict → (bytes : List ℕ) → Type 0
-Sized Accepted bytes = length bytes ≡ encodedSize
-Sized (Refused (R number)) bytes = Unit {0}
-Sized (Refused (Status status ext)) bytes = length bytes ≡ encodedSize
-
-pub record Keepable (reply : Reply) (bytes : List ℕ) : Type 0 where
-  pub sized : Sized (reply .verdict) bytes
-  pub short : reply .length ≤ answerRoom

@@ -1,63 +1,11 @@
 // The module for C: the device record as bytes, the entry points under C names. None asks anything of its caller. include/module.h is its header.
 ghost use mathlib.Core.Path.{_≡_};
-ghost use Prim.Native.Nat.{_≤_};
-ghost use lib.IntN.{pos};
-ghost use lib.ListN.{length};
-ghost use Rattle.rules.specs.Numbers.{answerRoom};
 ghost use Rattle.rules.specs.Record.{moduleOf};
 ghost use Rattle.rules.specs.Module.{callResult, tickResult, powerResult};
-ghost use Rattle.device_bytes.specs.Encoding.{encodedSize, encodeOf, decodeOf};
+ghost use Rattle.device_bytes.specs.Encoding.{decodeOf};
 ghost use Rattle.device_slots.specs.Slots.{freshNumber, freshSlots, writeNumber, writeSlots, selectNumber, selectSlots, readNumber, readRecord};
-ghost use Rattle.abi.specs.Abi.{refusal, told, keptBy, Called, Happened, Made, Keepable};
+ghost use Rattle.abi.specs.Abi.{Called, Happened, Made};
 use device_encode::ENCODED_SIZE;
-use module::Outcome;
-use rules::Device;
-use rules::Refusal;
-use rules::Verdict;
-
-fn refusal(number: u8) -> i32
-    ensures { λ r. ⌜ r ≡ refusal number ⌝ }
-{
-    -(number as i32)
-}
-
-fn length(n: usize) -> i32
-    requires { ⌜ n ≤ answerRoom ⌝ }
-    ensures { λ r. ⌜ r ≡ pos n ⌝ }
-{
-    n as i32
-}
-
-// Writes the record's bytes, and gives the answer's length.
-fn write(d: Device, bytes: &mut [u8], n: usize) -> i32
-    requires { ⌜ (length (now bytes) ≡ encodedSize) × (n ≤ answerRoom) ⌝ }
-    ensures { λ r. ⌜ (r ≡ pos n) × (now (bytes .exit) ≡ encodeOf d) ⌝ }
-{
-    device_encode::put(d, bytes);
-    length(n)
-}
-
-// What the caller is told; and its record, written where the call, tick or power cycle was accepted or an attempt is counted.
-fn keep(outcome: Outcome, bytes: &mut [u8]) -> i32
-    requires { ⌜ Keepable (outcome .reply) (now bytes) ⌝ }
-    ensures { λ r. ⌜ (r ≡ told (outcome .reply)) × (now (bytes .exit) ≡ keptBy (outcome .reply .verdict) (outcome .device) (now (bytes .entry))) ⌝ }
-{
-    let reply = outcome.reply;
-    let verdict = reply.verdict;
-    match verdict {
-        Verdict::Accepted => write(outcome.device, bytes, reply.length),
-        Verdict::Refused(reason) => match reason {
-            Refusal::R { number } => refusal(number),
-            Refusal::Status { status, ext: _ } => {
-                let counted = status == 11;
-                if counted {
-                    return write(outcome.device, bytes, reply.length);
-                }
-                length(reply.length)
-            }
-        },
-    }
-}
 
 #[no_mangle]
 pub extern "C" fn module_fresh(bytes: &mut [u8]) -> i32
@@ -66,7 +14,7 @@ pub extern "C" fn module_fresh(bytes: &mut [u8]) -> i32
     if bytes.len() != ENCODED_SIZE {
         return -3;
     }
-    write(module::fresh(), bytes, 0)
+    abi_keep::write(module::fresh(), bytes, 0)
 }
 
 #[no_mangle]
@@ -82,7 +30,7 @@ pub extern "C" fn module_call(
 {
     let d = device_decode::decode(bytes);
     let outcome = module::call(d, area, revision, function, request, answer);
-    keep(outcome, bytes)
+    abi_keep::keep(outcome, bytes)
 }
 
 #[no_mangle]
@@ -91,7 +39,7 @@ pub extern "C" fn module_tick(bytes: &mut [u8], area: &[u8]) -> i32
 {
     let d = device_decode::decode(bytes);
     let outcome = module::tick(d, area);
-    keep(outcome, bytes)
+    abi_keep::keep(outcome, bytes)
 }
 
 #[no_mangle]
@@ -100,7 +48,7 @@ pub extern "C" fn module_power(bytes: &mut [u8], area: &[u8]) -> i32
 {
     let d = device_decode::decode(bytes);
     let outcome = module::power(d, area);
-    keep(outcome, bytes)
+    abi_keep::keep(outcome, bytes)
 }
 
 #[no_mangle]

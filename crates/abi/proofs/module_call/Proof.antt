@@ -1,6 +1,6 @@
 -- `abi::module_call` meets its contract. The module's promise for the decoded record, kept in the bytes (proofs/Kept.antt).
 -- Assumes nothing.
-use Rattle.abi.proofs.Numbers.{passed-on}
+use Rattle.abi_keep.proofs.Numbers.{passed-on}
 use Rattle.device_bytes.specs.Encoding.{decodeOf}
 use Rattle.rules.specs.declared.Device.{Device}
 use Rattle.rules.specs.Record.{moduleOf}

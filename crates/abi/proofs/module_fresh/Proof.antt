@@ -1,6 +1,6 @@
 -- `abi::module_fresh` meets its contract. A record of another length is refused; over 128 bytes the fresh record is written.
 -- Assumes nothing.
-use Rattle.abi.proofs.Numbers.{passed-on}
+use Rattle.abi_keep.proofs.Numbers.{passed-on}
 use Rattle.abi.proofs.Made.{made, not-made}
 use mathlib.Core.Path.{_∙_, ap}
 use Rattle.device_bytes.specs.Encoding.{encodeOf}

@@ -1,9 +1,9 @@
--- `abi::refusal` meets its contract. A byte's negation fits 32 bits (proofs/Numbers.antt).
+-- `abi_keep::refusal` meets its contract. A byte's negation fits 32 bits (proofs/Numbers.antt).
 -- Assumes nothing.
-use Rattle.abi.proofs.Numbers.{fits-negated, as-refusal}
+use Rattle.abi_keep.proofs.Numbers.{fits-negated, as-refusal}
 use borrow.Author.Needs.{needs}
-use Rattle.abi.proofs.refusal.Statement.{statement}
-use Rattle.abi.proofs.refusal.Tie as tie
+use Rattle.abi_keep.proofs.refusal.Statement.{statement}
+use Rattle.abi_keep.proofs.refusal.Tie as tie
 
 cast-result : tie.Need-cast-result
 cast-result c = search needs

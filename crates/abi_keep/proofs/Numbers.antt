@@ -10,7 +10,7 @@ use mir.Syntax.{w8, w32}
 use mir.Val.{Fits, SFits, hbits, toZ, ofZ}
 use mir.Facts.{toZ-pos, toZ-ofZ}
 use Rattle.rules.specs.Numbers.{answerRoom}
-use Rattle.abi.specs.Abi.{refusal}
+use Rattle.abi_keep.specs.Kept.{refusal}
 
 pub as-length : (n : ℕ) → n ≤ answerRoom → toZ w32 n ≡ pos n
 as-length n h = toZ-pos w32 (omega arith)

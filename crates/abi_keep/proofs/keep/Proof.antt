@@ -1,12 +1,12 @@
--- `abi::keep` meets its contract. The verdict decides the number and whether the bytes are written (proofs/Kept.antt).
+-- `abi_keep::keep` meets its contract. The verdict decides the number and whether the bytes are written (proofs/Settled.antt).
 -- Assumes nothing.
 use mathlib.Core.Path.{refl, _∙_, ap}
 use Rattle.rules.specs.declared.Verdict.the-variants.{Refused}
-use Rattle.abi.proofs.Numbers.{passed-on}
-use Rattle.abi.proofs.Kept.{settled, counted, not-counted, sized-by}
+use Rattle.abi_keep.proofs.Numbers.{passed-on}
+use Rattle.abi_keep.proofs.Settled.{settled, counted, not-counted, sized-by}
 use borrow.Author.Needs.{needs}
-use Rattle.abi.proofs.keep.Statement.{statement}
-use Rattle.abi.proofs.keep.Tie as tie
+use Rattle.abi_keep.proofs.keep.Statement.{statement}
+use Rattle.abi_keep.proofs.keep.Tie as tie
 
 enum-told : tie.Need-enum-told
 enum-told c = search needs

@@ -1,9 +1,9 @@
--- `abi::write` meets its contract. The record's bytes are written where they are kept.
+-- `abi_keep::write` meets its contract. The record's bytes are written where they are kept.
 -- Assumes nothing.
-use Rattle.abi.proofs.Numbers.{passed-on}
+use Rattle.abi_keep.proofs.Numbers.{passed-on}
 use borrow.Author.Needs.{needs}
-use Rattle.abi.proofs.write.Statement.{statement}
-use Rattle.abi.proofs.write.Tie as tie
+use Rattle.abi_keep.proofs.write.Statement.{statement}
+use Rattle.abi_keep.proofs.write.Tie as tie
 
 returns : tie.Need-returns
 returns c = (passed-on (c .length .ok) (c .length .ensures), c .before .before .before .put .ensures)

@@ -1,9 +1,9 @@
--- `abi::length` meets its contract. A length within the answer buffer stays as it is (proofs/Numbers.antt).
+-- `abi_keep::length` meets its contract. A length within the answer buffer stays as it is (proofs/Numbers.antt).
 -- Assumes nothing.
-use Rattle.abi.proofs.Numbers.{as-length}
+use Rattle.abi_keep.proofs.Numbers.{as-length}
 use borrow.Author.Needs.{needs}
-use Rattle.abi.proofs.length.Statement.{statement}
-use Rattle.abi.proofs.length.Tie as tie
+use Rattle.abi_keep.proofs.length.Statement.{statement}
+use Rattle.abi_keep.proofs.length.Tie as tie
 
 cast-result : tie.Need-cast-result
 cast-result c = search needs

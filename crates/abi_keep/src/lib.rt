@@ -1,0 +1,56 @@
+// What a C function makes of an outcome: the number that its caller is told, and the record's bytes, written where they are kept.
+ghost use mathlib.Core.Path.{_≡_};
+ghost use Prim.Native.Nat.{_≤_};
+ghost use lib.IntN.{pos};
+ghost use lib.ListN.{length};
+ghost use Rattle.rules.specs.Numbers.{answerRoom};
+ghost use Rattle.device_bytes.specs.Encoding.{encodedSize, encodeOf};
+ghost use Rattle.abi_keep.specs.Kept.{refusal, told, keptBy, Keepable};
+use module::Outcome;
+use rules::Device;
+use rules::Refusal;
+use rules::Verdict;
+
+fn refusal(number: u8) -> i32
+    ensures { λ r. ⌜ r ≡ refusal number ⌝ }
+{
+    -(number as i32)
+}
+
+fn length(n: usize) -> i32
+    requires { ⌜ n ≤ answerRoom ⌝ }
+    ensures { λ r. ⌜ r ≡ pos n ⌝ }
+{
+    n as i32
+}
+
+// Writes the record's bytes, and gives the answer's length.
+pub fn write(d: Device, bytes: &mut [u8], n: usize) -> i32
+    requires { ⌜ (length (now bytes) ≡ encodedSize) × (n ≤ answerRoom) ⌝ }
+    ensures { λ r. ⌜ (r ≡ pos n) × (now (bytes .exit) ≡ encodeOf d) ⌝ }
+{
+    device_encode::put(d, bytes);
+    length(n)
+}
+
+// What the caller is told; and its record, written where the call, tick or power cycle was accepted or an attempt is counted.
+pub fn keep(outcome: Outcome, bytes: &mut [u8]) -> i32
+    requires { ⌜ Keepable (outcome .reply) (now bytes) ⌝ }
+    ensures { λ r. ⌜ (r ≡ told (outcome .reply)) × (now (bytes .exit) ≡ keptBy (outcome .reply .verdict) (outcome .device) (now (bytes .entry))) ⌝ }
+{
+    let reply = outcome.reply;
+    let verdict = reply.verdict;
+    match verdict {
+        Verdict::Accepted => write(outcome.device, bytes, reply.length),
+        Verdict::Refused(reason) => match reason {
+            Refusal::R { number } => refusal(number),
+            Refusal::Status { status, ext: _ } => {
+                let counted = status == 11;
+                if counted {
+                    return write(outcome.device, bytes, reply.length);
+                }
+                length(reply.length)
+            }
+        },
+    }
+}
