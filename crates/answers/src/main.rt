@@ -50,7 +50,7 @@ fn answer_call(
     let f = function as u64;
     let outcome = module::call(d, area, v, f, request, &mut answer);
     let reply = outcome.reply;
-    let at = answers_lines::put_answer(out, at, number, &answer, reply.length);
+    let at = answers_call_line::put_answer(out, at, number, &answer, reply.length);
     played(at, outcome)
 }
 

@@ -1,58 +1,10 @@
-// The lines of the fuller trace that layouts are compared by: the line of a call with its answer's bytes in hex, and the end state, with every field of the
-// device record and the whole staging area. It promises how much it writes and no text; its lines are compared with an independent program's.
+// The fuller trace's lines of the end state, with every field of the device record and the whole staging area, by which layouts are compared. A call's is
+// crates/answers_call_line. They promise how much they write and no text; the lines are compared with an independent program's.
 ghost use Prim.Native.Nat.{_+_, _*_, _≤_};
-ghost use mathlib.Core.Path.{_≡_};
 ghost use lib.ListN.{length};
-ghost use Rattle.rules.specs.Numbers.{answerRoom};
 use rules::Device;
 use rules::Phase;
 use rules::Security;
-
-// The hex digit of the lower four bits.
-fn hex_digit(n: u8) -> u8 {
-    let digit = n % 16;
-    if digit < 10 {
-        return 48 + digit;
-    }
-    87 + digit
-}
-
-fn put_digit(out: &mut [u8], at: usize, n: u8) -> usize
-    requires { ⌜ at + 1 ≤ length (now out) ⌝ }
-    ensures { λ r. ⌜ r ≡ at + 1 ⌝ }
-{
-    out[at] = hex_digit(n);
-    at + 1
-}
-
-// The first `count` bytes in lower-case hex; nothing if there are not so many.
-fn put_hex(out: &mut [u8], at: usize, bytes: &[u8], count: usize) -> usize
-    requires { ⌜ at + 2 * length (now bytes) ≤ length (now out) ⌝ }
-    ensures { λ r. ⌜ r ≤ at + 2 * length (now (bytes .entry)) ⌝ }
-{
-    if bytes.len() < count {
-        return at;
-    }
-    let mut to = at;
-    let mut i = 0;
-    while i < count {
-        let b = bytes[i];
-        to = put_digit(out, to, b / 16);
-        to = put_digit(out, to, b);
-        i += 1;
-    }
-    to
-}
-
-// The line of a call: a number of at most 20 digits, a word, the answer's bytes, of which there are `size`, and the line's end.
-pub fn put_answer(out: &mut [u8], at: usize, number: u64, answer: &[u8], size: usize) -> usize
-    requires { ⌜ (at + 160 ≤ length (now out)) × (length (now answer) ≡ answerRoom) ⌝ }
-    ensures { λ r. ⌜ r ≤ at + 160 ⌝ }
-{
-    let named = text::put_field(out, at, number, b" call ");
-    let end = put_hex(out, named, answer, size);
-    text::put(out, end, b"\n")
-}
 
 // The line of a tail that is no whole record, if there is one.
 fn put_tail(out: &mut [u8], at: usize, number: u64, short: bool) -> usize
@@ -143,7 +95,7 @@ fn put_bytes(out: &mut [u8], at: usize, name: &[u8], bytes: &[u8]) -> usize
     ensures { λ r. ⌜ r ≤ at + 2 * length (now (bytes .entry)) + 20 ⌝ }
 {
     let named = text::put(out, at, name);
-    let end = put_hex(out, named, bytes, bytes.len());
+    let end = answers_hex::put_hex(out, named, bytes, bytes.len());
     text::put(out, end, b"\n")
 }
 

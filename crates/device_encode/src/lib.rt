@@ -29,7 +29,7 @@ fn put_first(d: Device, out: &mut [u8])
 {
     let t = d.transfer;
     let p = t.phase;
-    bytes_base::put_at(out, 0, 1, device_record::phase_number(p) as u64);
+    bytes_base::put_at(out, 0, 1, device_phase::phase_number(p) as u64);
     put_state(d.security, out);
     bytes_base::put_at(out, 5, 1, t.ticks as u64);
     bytes_base::put_at(out, 6, 2, d.thresholds.enable as u64);

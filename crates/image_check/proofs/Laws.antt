@@ -1,54 +1,19 @@
--- Laws of a record's sum, of its fields' test, of the loop over the records, of a good size, and of what the tests together say.
+-- Laws of the loop over the records, of a good size, and of what the tests together say.
 -- Assumes nothing.
 use mathlib.Core.Path.{_≡_, sym, _∙_, ap}
 use mathlib.Core.Bool.{Bool, true, false, not, _&&_}
 use mathlib.Core.List.{List}
-use Prim.Native.Nat.{ℕ, zero, suc, _+_, _-_, _*_, _/_, _%_, _^_, _≤_, _<_}
-use native.Mathlib.Nat.{mod-add-mod, add-sub-cancel-left}
-use native.Mathlib.Numerals.{add-one}
+use Prim.Native.Nat.{ℕ, suc, _+_, _-_, _*_, _/_, _≤_, _<_}
+use native.Mathlib.Nat.{add-sub-cancel-left}
 use native.Mathlib.Omega.{arith}
 use lib.Dec.{leb, eqb}
 use lib.ListN.{length, take, drop}
 use lib.Seq.{drop-drop}
 use borrow.Author.Tests.{leb-true, eqb-true}
-use Rattle.rules.specs.Bytes.{ofLe, numberAt}
-use Rattle.rules.specs.Image.{sumOfWords, goodRecord, goodRecords, goodSize, versionOf, goodImage, imageOf}
+use Rattle.rules.specs.Image.{goodRecord, goodRecords, goodSize, versionOf, goodImage, imageOf}
 use Rattle.rules.specs.Tests.{_=?_, if_then_else_}
 use Rattle.rules.specs.declared.Image.the-variants.{Good, Bad}
 use Rattle.rules.proofs.page.Choice.{and-true}
-
--- the sum of one word more is the sum so far and that word
-sum-of-one-more : (words : ℕ) (bytes : List ℕ)
-    → sumOfWords (suc words) bytes ≡ sumOfWords words bytes + numberAt 4 (words * 4) bytes
-unfolding sumOfWords
-sum-of-one-more zero bytes = omega arith
-sum-of-one-more (suc words) bytes =
-    let place : 4 + words * 4 ≡ suc words * 4 = omega arith in
-    let word : numberAt 4 (words * 4) (drop 4 bytes) ≡ numberAt 4 (suc words * 4) bytes =
-    ap (λ (l : List ℕ). ofLe (take 4 l)) (drop-drop (words * 4) 4 bytes ∙ ap (λ (at : ℕ). drop at bytes) place) in
-    omega (arith, sum-of-one-more words (drop 4 bytes), word)
-
--- the same, where the sums wrap at 32 bits
-pub wrapping-sum-of-one-more : (sum word words next : ℕ) (bytes : List ℕ)
-    → sum ≡ sumOfWords words bytes % 2 ^ 32 → word ≡ numberAt 4 (words * 4) bytes → next ≡ (sum + word) % 2 ^ 32
-    → next ≡ sumOfWords (words + 1) bytes % 2 ^ 32
-wrapping-sum-of-one-more sum word words next bytes s w n = rw (add-one, sum-of-one-more, n, s, w, mod-add-mod)
-
--- a record whose fields were read: a bad field decides, and where all are good the sum does
-module _ (i n version : ℕ) (bytes : List ℕ) {number count own : ℕ}
-    (number-is : number ≡ numberAt 2 0 bytes) (count-is : count ≡ numberAt 2 2 bytes) (own-is : own ≡ numberAt 8 4 bytes)
-  where
-    abbrev fields : Bool
-    fields = (number =? i) && (count =? n) && (own =? version)
-
-    pub bad-field-decides : fields ≡ false → false ≡ goodRecord i n version bytes
-    unfolding goodRecord
-    bad-field-decides bad = rw (← number-is, ← count-is, ← own-is, bad)
-
-    pub sum-decides : {word sum : ℕ} → fields ≡ true → word ≡ numberAt 4 124 bytes → sum ≡ sumOfWords 31 bytes % 2 ^ 32
-        → (word =? sum) ≡ goodRecord i n version bytes
-    unfolding goodRecord
-    sum-decides good word-is sum-is = rw (← number-is, ← count-is, ← own-is, ← word-is, ← sum-is, good)
 
 -- the records from number i on are record i and those from the next on
 records-from : (n version i : ℕ) (bytes : List ℕ) → i < n

@@ -30,7 +30,7 @@ pub fn tick(t: Transfer, area: &[u8]) -> Transfer
     ensures { λ r. ⌜ r ≡ tickChange t (now (area .entry)) ⌝ }
 {
     let p = t.phase;
-    let verifying = device_record::phase_number(p) == 2;
+    let verifying = device_phase::phase_number(p) == 2;
     if !verifying {
         return t;
     }
@@ -49,7 +49,7 @@ fn running_after(t: Transfer) -> u64
     ensures { λ r. ⌜ r ≡ runningAfter t ⌝ }
 {
     let p = t.phase;
-    let staged = device_record::phase_number(p) == 3;
+    let staged = device_phase::phase_number(p) == 3;
     if staged {
         return t.staged;
     }

@@ -1,0 +1,26 @@
+// The phase in code: its number, by which two phases are compared, and whether a context is live in it.
+ghost use mathlib.Core.Path.{_≡_};
+ghost use Rattle.rules.specs.Record.{phaseNumber, live};
+use rules::Phase;
+use rules::Transfer;
+
+pub fn phase_number(p: Phase) -> u8
+    ensures { λ r. ⌜ r ≡ phaseNumber p ⌝ }
+{
+    match p {
+        Phase::Idle => 0,
+        Phase::Receiving => 1,
+        Phase::Verifying => 2,
+        Phase::Staged => 3,
+        Phase::Failed => 4,
+    }
+}
+
+// "It is live in every phase but Idle."
+pub fn live(t: Transfer, context: u32) -> bool
+    ensures { λ r. ⌜ r ≡ live t context ⌝ }
+{
+    let p = t.phase;
+    let n = phase_number(p);
+    !(n == 0) & (context == t.contexts)
+}

@@ -1,0 +1,57 @@
+// Document 01, "The device record": whether a record is possible, each of its three parts by itself.
+ghost use mathlib.Core.Path.{_≡_};
+ghost use lib.ListN.{length};
+ghost use Rattle.rules.specs.Bytes.{zeros?};
+ghost use Rattle.rules.specs.Record.{possible, possibleTransfer, possibleSecurity, possibleThresholds};
+use rules::Device;
+use rules::Security;
+use rules::Thresholds;
+use rules::Transfer;
+
+fn possible_transfer(t: Transfer) -> bool
+    ensures { λ r. ⌜ r ≡ possibleTransfer t ⌝ }
+{
+    let p = t.phase;
+    let n = device_phase::phase_number(p);
+    let idle = n == 0;
+    let verifying = n == 2;
+    let staged = n == 3;
+    (idle | (1 <= t.contexts))
+        & (t.received <= 16384)
+        & (!idle | (t.received == 0))
+        & (!verifying | ((1 <= t.ticks) & (t.ticks <= 8)))
+        & (verifying | (t.ticks == 0))
+        & (staged | (t.staged == 0))
+}
+
+// 32 bytes are zero, by four numbers and not byte by byte: a record that is judged stays whole words.
+fn all_zero(passphrase: &[u8]) -> bool
+    requires { ⌜ length (now passphrase) ≡ 32 ⌝ }
+    ensures { λ r. ⌜ r ≡ zeros? (now (passphrase .entry)) ⌝ }
+{
+    (bytes_numbers::long(passphrase, 0) == 0)
+        & (bytes_numbers::long(passphrase, 8) == 0)
+        & (bytes_numbers::long(passphrase, 16) == 0)
+        & (bytes_numbers::long(passphrase, 24) == 0)
+}
+
+fn possible_security(s: Security) -> bool
+    ensures { λ r. ⌜ r ≡ possibleSecurity s ⌝ }
+{
+    let zero = all_zero(&s.passphrase);
+    (!s.locked | s.enabled) & (s.enabled | zero) & (s.attempts <= 10)
+}
+
+fn possible_thresholds(h: Thresholds) -> bool
+    ensures { λ r. ⌜ r ≡ possibleThresholds h ⌝ }
+{
+    (h.enable < 8) & (h.spare <= 100)
+}
+
+pub fn possible(d: Device) -> bool
+    ensures { λ r. ⌜ r ≡ possible d ⌝ }
+{
+    possible_transfer(d.transfer)
+        & possible_security(d.security)
+        & possible_thresholds(d.thresholds)
+}

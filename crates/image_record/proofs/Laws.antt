@@ -1,0 +1,47 @@
+-- Laws of a record's sum, and of its fields' test.
+-- Assumes nothing.
+use mathlib.Core.Path.{_≡_, _∙_, ap}
+use mathlib.Core.Bool.{Bool, true, false, _&&_}
+use mathlib.Core.List.{List}
+use Prim.Native.Nat.{ℕ, zero, suc, _+_, _*_, _%_, _^_}
+use native.Mathlib.Nat.{mod-add-mod}
+use native.Mathlib.Numerals.{add-one}
+use native.Mathlib.Omega.{arith}
+use lib.ListN.{take, drop}
+use lib.Seq.{drop-drop}
+use Rattle.rules.specs.Bytes.{ofLe, numberAt}
+use Rattle.rules.specs.Image.{sumOfWords, goodRecord}
+use Rattle.rules.specs.Tests.{_=?_}
+
+-- the sum of one word more is the sum so far and that word
+sum-of-one-more : (words : ℕ) (bytes : List ℕ)
+    → sumOfWords (suc words) bytes ≡ sumOfWords words bytes + numberAt 4 (words * 4) bytes
+unfolding sumOfWords
+sum-of-one-more zero bytes = omega arith
+sum-of-one-more (suc words) bytes =
+    let place : 4 + words * 4 ≡ suc words * 4 = omega arith in
+    let word : numberAt 4 (words * 4) (drop 4 bytes) ≡ numberAt 4 (suc words * 4) bytes =
+    ap (λ (l : List ℕ). ofLe (take 4 l)) (drop-drop (words * 4) 4 bytes ∙ ap (λ (at : ℕ). drop at bytes) place) in
+    omega (arith, sum-of-one-more words (drop 4 bytes), word)
+
+-- the same, where the sums wrap at 32 bits
+pub wrapping-sum-of-one-more : (sum word words next : ℕ) (bytes : List ℕ)
+    → sum ≡ sumOfWords words bytes % 2 ^ 32 → word ≡ numberAt 4 (words * 4) bytes → next ≡ (sum + word) % 2 ^ 32
+    → next ≡ sumOfWords (words + 1) bytes % 2 ^ 32
+wrapping-sum-of-one-more sum word words next bytes s w n = rw (add-one, sum-of-one-more, n, s, w, mod-add-mod)
+
+-- a record whose fields were read: a bad field decides, and where all are good the sum does
+module _ (i n version : ℕ) (bytes : List ℕ) {number count own : ℕ}
+    (number-is : number ≡ numberAt 2 0 bytes) (count-is : count ≡ numberAt 2 2 bytes) (own-is : own ≡ numberAt 8 4 bytes)
+  where
+    abbrev fields : Bool
+    fields = (number =? i) && (count =? n) && (own =? version)
+
+    pub bad-field-decides : fields ≡ false → false ≡ goodRecord i n version bytes
+    unfolding goodRecord
+    bad-field-decides bad = rw (← number-is, ← count-is, ← own-is, bad)
+
+    pub sum-decides : {word sum : ℕ} → fields ≡ true → word ≡ numberAt 4 124 bytes → sum ≡ sumOfWords 31 bytes % 2 ^ 32
+        → (word =? sum) ≡ goodRecord i n version bytes
+    unfolding goodRecord
+    sum-decides good word-is sum-is = rw (← number-is, ← count-is, ← own-is, ← word-is, ← sum-is, good)

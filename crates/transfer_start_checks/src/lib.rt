@@ -1,0 +1,27 @@
+// The checks of Start, in the page's order.
+ghost use mathlib.Core.Path.{_≡_};
+ghost use Rattle.rules.specs.Refusals.{verdict};
+ghost use Rattle.rules.specs.Transfer.{startChecks};
+use rules::Refusal;
+use rules::Transfer;
+use rules::Verdict;
+
+pub fn judge_start(t: Transfer) -> Verdict
+    ensures { λ r. ⌜ r ≡ verdict (startChecks t) ⌝ }
+{
+    let p = t.phase;
+    let n = device_phase::phase_number(p);
+    let running = (n == 1) | (n == 2);
+    let staged = n == 3;
+    let given_out = t.contexts == 4294967295;
+    if running {
+        return Verdict::Refused(Refusal::Status { status: 7, ext: 1 });
+    }
+    if staged {
+        return Verdict::Refused(Refusal::Status { status: 7, ext: 2 });
+    }
+    if given_out {
+        return Verdict::Refused(Refusal::Status { status: 8, ext: 0 });
+    }
+    Verdict::Accepted
+}
