@@ -61,7 +61,7 @@ flocked() {
 alone_by_link() {
     tries=0
     until ln -s "$$" "$link" 2>/dev/null || [ ! -w "$root/target" ]; do
-        holder=$(readlink "$link")
+        holder=$(readlink "$link") || holder=''
         if [ -n "$holder" ] && ! lives "$holder" && mkdir "$link.$holder" 2>/dev/null; then
             [ "$(readlink "$link")" != "$holder" ] || rm -f "$link"
             rmdir "$link.$holder"
@@ -73,7 +73,8 @@ alone_by_link() {
     done
 }
 
-lives() { kill -0 "$1" 2>/dev/null || ps -p "$1" >/dev/null 2>&1; }
+# Another user's process lives too, though it may not be signalled.
+lives() { kill -0 "$1" 2>/dev/null || [ -d "/proc/$1" ] || ps -p "$1" >/dev/null 2>&1; }
 
 waits() { say "waiting for another use that builds: $(cat "$building" 2>/dev/null || echo "$link")"; }
 
@@ -89,8 +90,7 @@ release() {
 undo_killed() { [ ! -e "$mark" ] || undo 2>/dev/null; }
 
 undo() {
-    if [ -f "$kept" ]; then mv -f "$kept" "$file"; else rm -f "$file"; fi
-    rm -f "$mark"
+    if [ -f "$kept" ]; then mv -f "$kept" "$file"; else rm -f "$file"; fi && rm -f "$mark"
 }
 
 # Why nothing can be built here, or nothing.
