@@ -80,6 +80,11 @@ moves-written : {h k : History} → ByMoves h k → Moves h k
 moves-written as-it-is = no-move
 moves-written {h} (one-more b f) = subst (Moves h) (sym (moved-written f)) (and-move (moves-written b) (transfer-in f))
 
+-- there is no other way to make moves
+moves-back : {h k : History} → Moves h k → ByMoves h k
+moves-back no-move = as-it-is
+moves-back {h} (and-move b f) = subst (ByMoves h) (moved-written (finished-in f)) (one-more (moves-back b) (finished-in f))
+
 -- staging
 staged-true : (m : Module) (version : ℕ) → m .device .transfer .phase ≡ Staged → m .device .transfer .staged ≡ version → stagedWith version m ≡ true
 staged-true m version p q =
