@@ -30,7 +30,7 @@ pub extern "C" fn module_call(
 {
     let d = device_decode::decode(bytes);
     let outcome = module::call(d, area, revision, function, request, answer);
-    abi_keep::keep(outcome, bytes)
+    abi_keep::keep(outcome.reply, outcome.device, bytes)
 }
 
 #[no_mangle]
@@ -39,7 +39,7 @@ pub extern "C" fn module_tick(bytes: &mut [u8], area: &[u8]) -> i32
 {
     let d = device_decode::decode(bytes);
     let outcome = module::tick(d, area);
-    abi_keep::keep(outcome, bytes)
+    abi_keep::keep(outcome.reply, outcome.device, bytes)
 }
 
 #[no_mangle]
@@ -48,7 +48,7 @@ pub extern "C" fn module_power(bytes: &mut [u8], area: &[u8]) -> i32
 {
     let d = device_decode::decode(bytes);
     let outcome = module::power(d, area);
-    abi_keep::keep(outcome, bytes)
+    abi_keep::keep(outcome.reply, outcome.device, bytes)
 }
 
 #[no_mangle]

@@ -6,9 +6,9 @@ ghost use lib.ListN.{length};
 ghost use Rattle.rules.specs.Numbers.{answerRoom};
 ghost use Rattle.device_bytes.specs.Encoding.{encodedSize, encodeOf};
 ghost use Rattle.abi_keep.specs.Kept.{refusal, told, keptBy, Keepable};
-use module::Outcome;
 use rules::Device;
 use rules::Refusal;
+use rules::Reply;
 use rules::Verdict;
 
 fn refusal(number: u8) -> i32
@@ -34,20 +34,19 @@ pub fn write(d: Device, bytes: &mut [u8], n: usize) -> i32
 }
 
 // What the caller is told; and its record, written where the call, tick or power cycle was accepted or an attempt is counted.
-pub fn keep(outcome: Outcome, bytes: &mut [u8]) -> i32
-    requires { ⌜ Keepable (outcome .reply) (now bytes) ⌝ }
-    ensures { λ r. ⌜ (r ≡ told (outcome .reply)) × (now (bytes .exit) ≡ keptBy (outcome .reply .verdict) (outcome .device) (now (bytes .entry))) ⌝ }
+pub fn keep(reply: Reply, d: Device, bytes: &mut [u8]) -> i32
+    requires { ⌜ Keepable reply (now bytes) ⌝ }
+    ensures { λ r. ⌜ (r ≡ told reply) × (now (bytes .exit) ≡ keptBy (reply .verdict) d (now (bytes .entry))) ⌝ }
 {
-    let reply = outcome.reply;
     let verdict = reply.verdict;
     match verdict {
-        Verdict::Accepted => write(outcome.device, bytes, reply.length),
+        Verdict::Accepted => write(d, bytes, reply.length),
         Verdict::Refused(reason) => match reason {
             Refusal::R { number } => refusal(number),
             Refusal::Status { status, ext: _ } => {
                 let counted = status == 11;
                 if counted {
-                    return write(outcome.device, bytes, reply.length);
+                    return write(d, bytes, reply.length);
                 }
                 length(reply.length)
             }

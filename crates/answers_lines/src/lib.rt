@@ -23,7 +23,7 @@ fn put_phase(out: &mut [u8], at: usize, phase: Phase) -> usize
     ensures { λ r. ⌜ r ≤ at + 40 ⌝ }
 {
     let named = text::put(out, at, b"phase ");
-    let end = text::put_phase(out, named, phase);
+    let end = text_phase::put_phase(out, named, phase);
     text::put(out, end, b"\n")
 }
 

@@ -10,7 +10,7 @@ use Rattle.rules.specs.Tests.{if_then_else_, _=?_}
 use Rattle.rules.specs.Log.{entryOf, kindIn, goodCall, bare}
 use Rattle.rules.specs.declared.Entry.{Entry}
 use Rattle.rules.specs.declared.Entry.the-variants.{Tick, Power, Bad}
-use Rattle.log_record.specs.Call.{callEntry}
+use Rattle.log_call.specs.Call.{callEntry}
 
 pub of-no-record : (bytes : List ℕ) → (length bytes ≡ 544 → ⊥) → Bad ≡ entryOf bytes
 unfolding entryOf

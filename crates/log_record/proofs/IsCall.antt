@@ -13,7 +13,7 @@ use Rattle.rules.specs.Log.{entryOf, kindIn, hostIn, revisionIn, functionIn, le
 use Rattle.rules.specs.declared.Entry.{Entry}
 use Rattle.rules.specs.declared.Entry.the-variants.{Call, Tick, Power, Bad}
 use Rattle.rules.proofs.page.Choice.{and-true}
-use Rattle.log_record.specs.Call.{callEntry}
+use Rattle.log_call.specs.Call.{callEntry}
 
 pub record IsCall (bytes : List ℕ) (host revision function size : ℕ) : Type 0 where
   pub long : length bytes ≡ 544

@@ -31,7 +31,7 @@ pub fn put_last(out: &mut [u8], at: usize, d: Device) -> usize
     let transfer = d.transfer;
     let phase = transfer.phase;
     let named = text::put(out, at, b"end ");
-    let spaced = text::put_phase(out, named, phase);
+    let spaced = text_phase::put_phase(out, named, phase);
     let counted = text::put(out, spaced, b" ");
     text::put_field(out, counted, transfer.contexts as u64, b"\n")
 }

@@ -1,4 +1,3 @@
 pub mod Writing
 pub mod Decimal
-pub mod PhaseName
 pub mod Agree

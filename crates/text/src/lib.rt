@@ -2,10 +2,8 @@
 ghost use mathlib.Core.List.{_++_};
 ghost use Prim.Native.Nat.{_+_, _≤_};
 ghost use lib.ListN.{length};
-ghost use Rattle.rules.specs.Text.{ascii, decimal};
-ghost use Rattle.rules.specs.Replay.{phaseName};
+ghost use Rattle.rules.specs.Text.{decimal};
 ghost use Rattle.text.specs.Wrote.{Wrote};
-use rules::Phase;
 
 pub fn put(out: &mut [u8], at: usize, text: &[u8]) -> usize
     requires { ⌜ at + length (now text) ≤ length (now out) ⌝ }
@@ -38,19 +36,4 @@ pub fn put_field(out: &mut [u8], at: usize, n: u64, after: &[u8]) -> usize
 {
     let behind = put_decimal(out, at, n);
     put(out, behind, after)
-}
-
-// A phase's name, which takes at most 9 letters.
-pub fn put_phase(out: &mut [u8], at: usize, phase: Phase) -> usize
-    requires { ⌜ at + 9 ≤ length (now out) ⌝ }
-    ensures { λ r. ⌜ r ≤ at + 9 ⌝ }
-    ensures { λ r. ⌜ Wrote (now (out .entry)) at (ascii (phaseName phase)) (now (out .exit)) r ⌝ }
-{
-    match phase {
-        Phase::Idle => put(out, at, b"idle"),
-        Phase::Receiving => put(out, at, b"receiving"),
-        Phase::Verifying => put(out, at, b"verifying"),
-        Phase::Staged => put(out, at, b"staged"),
-        Phase::Failed => put(out, at, b"failed"),
-    }
 }

@@ -13,38 +13,53 @@ enum-told c = search needs
 
 write-requires : tie.Need-write-requires
 write-requires c κs =
-    let k = c .before .before .before .before .before in
-    (sized-by _ (k .args .outcome .reply) (k .args .bytes .now) (c .before .enum-told .given .1) (k .pre), k .pre .short)
+    let m = c .before in
+    let k = m .before .before .before in
+    (sized-by _ (k .args .reply) (k .args .bytes .now) (m .enum-told .given .1) (k .pre), k .pre .short)
 
 write-requires-2 : tie.Need-write-requires-2
 write-requires-2 c κs =
-    let k = c .before .before .before .before .before .before .before .before .before .before in
-    (sized-by _ (k .args .outcome .reply) (k .args .bytes .now) (c .before .before .before .before .before .before .verdict .given .1 ∙ ap Refused (c .before .before .before .reason2 .given .1)) (k .pre), k .pre .short)
+    let r = c .before .before .before in
+    let m = r .before .before .before in
+    let k = m .before .before .before in
+    let refused = m .verdict .given .1 ∙ ap Refused (r .reason2 .given .1) in
+    (sized-by _ (k .args .reply) (k .args .bytes .now) refused (k .pre), k .pre .short)
 
 returns : tie.Need-returns
 returns c =
-    let k = c .before .before .before .before .before .before .before .before .before .before .before .before .before in
-    let w = c .before .before .write2 in
-    settled _ (k .args .outcome .reply) (k .args .outcome .device) (k .args .bytes .now) (c .before .before .before .before .before .before .before .before .before .verdict .given .1 ∙ ap Refused (c .before .before .before .before .before .before .reason2 .given .1))
-    (passed-on (w .ok) (w .ensures .0))
-    (counted (c .before .before .before .before .before .before .reason2 .given .0 .0) (c .before .before .before .before .before .before .reason2 .given .0 .1 .0) (k .args .outcome .device) (k .args .bytes .now) (c .before .before .before .before .if1 .taken) (w .ensures .1))
+    let w = c .before .before in
+    let f = w .before .before in
+    let r = f .before .before in
+    let m = r .before .before .before in
+    let a = m .before .before .before .args in
+    let refused = m .verdict .given .1 ∙ ap Refused (r .reason2 .given .1) in
+    settled _ (a .reply) (a .d) (a .bytes .now) refused (passed-on (w .write2 .ok) (w .write2 .ensures .0))
+    (counted (r .reason2 .given .0 .0) (r .reason2 .given .0 .1 .0) (a .d) (a .bytes .now) (f .if1 .taken) (w .write2 .ensures .1))
 
 returns-2 : tie.Need-returns-2
 returns-2 c =
-    let k = c .before .before .before .before .before .before .before .before in
-    let w = c .before .before .write in
-    settled _ (k .args .outcome .reply) (k .args .outcome .device) (k .args .bytes .now) (c .before .before .before .before .enum-told .given .1) (passed-on (w .ok) (w .ensures .0)) (w .ensures .1)
+    let w = c .before .before in
+    let m = w .before .before in
+    let a = m .before .before .before .args in
+    settled _ (a .reply) (a .d) (a .bytes .now) (m .enum-told .given .1) (passed-on (w .write .ok) (w .write .ensures .0)) (w .write .ensures .1)
 
 returns-3 : tie.Need-returns-3
 returns-3 c =
-    let k = c .before .before .before .before .before .before .before .before .before in
-    settled _ (k .args .outcome .reply) (k .args .outcome .device) (k .args .bytes .now) (c .before .before .before .before .before .verdict .given .1 ∙ ap Refused (c .before .before .reason .given .1)) (passed-on (c .refusal .ok) (c .refusal .ensures)) refl
+    let r = c .before .before in
+    let m = r .before .before .before in
+    let a = m .before .before .before .args in
+    let refused = m .verdict .given .1 ∙ ap Refused (r .reason .given .1) in
+    settled _ (a .reply) (a .d) (a .bytes .now) refused (passed-on (c .refusal .ok) (c .refusal .ensures)) refl
 
 returns-4 : tie.Need-returns-4
 returns-4 c =
-    let k = c .before .before .before .before .before .before .before .before .before .before in
-    settled _ (k .args .outcome .reply) (k .args .outcome .device) (k .args .bytes .now) (c .before .before .before .before .before .before .verdict .given .1 ∙ ap Refused (c .before .before .before .reason2 .given .1)) (passed-on (c .length .ok) (c .length .ensures))
-    (not-counted (c .before .before .before .reason2 .given .0 .0) (c .before .before .before .reason2 .given .0 .1 .0) (k .args .outcome .device) (k .args .bytes .now) (c .before .if1 .left))
+    let f = c .before in
+    let r = f .before .before in
+    let m = r .before .before .before in
+    let a = m .before .before .before .args in
+    let refused = m .verdict .given .1 ∙ ap Refused (r .reason2 .given .1) in
+    settled _ (a .reply) (a .d) (a .bytes .now) refused (passed-on (c .length .ok) (c .length .ensures))
+    (not-counted (r .reason2 .given .0 .0) (r .reason2 .given .0 .1 .0) (a .d) (a .bytes .now) (f .if1 .left))
 
 -- by search: enum-known-verdict, enum-known-reason, refusal-requires, enum-known-reason-2, same-length, length-requires, same-length-2
 pub keep-spec : {M : Type 1} → statement M

@@ -1,8 +1,8 @@
--- `log_record::decode_call` meets its contract: a good call's fields are read from their places, and any other is bad.
+-- `log_call::decode_call` meets its contract: a good call's fields are read from their places, and any other is bad.
 use borrow.Author.Needs.{needs}
 use borrow.Author.Tests.{not-true, not-false}
-use Rattle.log_record.proofs.decode_call.Statement.{statement}
-use Rattle.log_record.proofs.decode_call.Tie as tie
+use Rattle.log_call.proofs.decode_call.Statement.{statement}
+use Rattle.log_call.proofs.decode_call.Tie as tie
 
 not-good : tie.Need-returns
 not-good c = simp (← c .before .good-call .ensures, not-true (c .before .good-call .result) (c .if1 .taken))

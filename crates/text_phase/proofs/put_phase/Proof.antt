@@ -1,9 +1,9 @@
--- `text::put_phase` meets its contract: each arm's text is the name of its phase.
+-- `text_phase::put_phase` meets its contract: each arm's text is the name of its phase.
 use borrow.Author.Needs.{needs}
 use Rattle.rules.specs.declared.Phase.the-variants.{Idle, Receiving, Verifying, Staged, Failed}
-use Rattle.text.proofs.PhaseName.{wrote-name}
-use Rattle.text.proofs.put_phase.Statement.{statement}
-use Rattle.text.proofs.put_phase.Tie as tie
+use Rattle.text_phase.proofs.PhaseName.{wrote-name}
+use Rattle.text_phase.proofs.put_phase.Statement.{statement}
+use Rattle.text_phase.proofs.put_phase.Tie as tie
 
 -- three needs of each arm: the phase, the text's length, the room; then for each arm the buffer's length and what was written
 pub put-phase-spec : {M : Type 1} → statement M
