@@ -6,13 +6,36 @@ import re
 import shutil
 import subprocess
 import sys
+import typing
 
 ROOT = pathlib.Path(__file__).resolve().parent.parent
 STORIES = ROOT / "tests" / "stories"
 HEADING = b"record kind status ext length\n"
 
-# The two texts: the word for the independent program, and the crate of the proved one.
-PROGRAMS = {"replay": "replays", "answers": "answers"}
+EVERY_STORY = None
+UNREADABLE = ("missing.log", ".")       # no such file, and a folder: no text, and the logs after them are taken all the same
+
+
+class Program(typing.NamedTuple):
+    """A proved program over logs: its crate, and what the gate runs it on."""
+    crate: str
+    stories: typing.Optional[tuple] = EVERY_STORY       # whose logs stand in the crate's data/
+    arguments: typing.Optional[tuple] = None            # else each log, what cannot be read, and standard input
+    every_row: bool = True                              # whether its logs must reach every row of the page's tables
+
+
+# The programs by their word, which the independent program and bin/ take for the same text. A program joins by its entry here:
+# tests/stdout then writes its crate's args, stdin, data/ and stdout, and each check tries it.
+PROGRAMS = {
+    # The page's text, which every story tells something of.
+    "replay": Program("replays"),
+    # What layouts are compared by: each function's answers, each end state, and each other line once. How calls follow each other is
+    # the module's work, and the replay's logs tell it.
+    "answers": Program("answers", (
+        "functions", "lengths", "mask", "thresholds", "starts", "queries", "aborts", "frozen", "ten-wrong",     # answers
+        "empty", "area-stays", "ticks", "three-hosts", "edge-of-area",      # ends: idle, receiving, verifying, staged, failed
+        "bad-records", "page")),                                            # lines: bad, short
+}
 
 
 class Unready(Exception):
@@ -89,7 +112,7 @@ def stale(path, crate):
 
 def proved(name, folder=None):
     """The command of the proved program of a text, from target/bin or another folder."""
-    crate = PROGRAMS[name]
+    crate = PROGRAMS[name].crate
     path = pathlib.Path(folder or ROOT / "target" / "bin") / crate
     if not path.is_file():
         raise Unready(f"{path} is not there: 'rt check {crate}' builds it")
@@ -122,7 +145,7 @@ def by_clang(folder, name, sources, libraries=()):
 def stand_in(name, folder):
     """Builds the independent program as a program of one text: like a proved program it takes logs alone and ends with
     status 0."""
-    return by_clang(folder, PROGRAMS[name], [("independent/module.c", []), ("independent/replay.c", ["-Dmain=independent_main"]),
+    return by_clang(folder, PROGRAMS[name].crate, [("independent/module.c", []), ("independent/replay.c", ["-Dmain=independent_main"]),
                                              ("clang/stand_in.c", [f'-DTEXT="{name}"'])])
 
 

@@ -1,34 +1,47 @@
-// Reading logs, which may be files or pipes, and writing text out.
+// Reading logs, which may be files or pipes.
 ghost use Prim.Native.Nat.{_≤_};
 ghost use lib.ListN.{length};
 use libc::STDIN_FILENO;
-use libc::STDOUT_FILENO;
-
-// A record of a log, in bytes.
-pub const RECORD: usize = 544;
 
 // The buffer that a log is read into part by part: 120 records, as many whole ones as 65,536 bytes hold.
 pub const PART: usize = 65280;
 
-// The most parts of a log that are read, 2 to the 56th. A loop has to end, and no log is so long; the records' numbers stay below 9,000,000,000,000,000,000, the
-// bound in the programs' contracts, and so in 64 bits.
-pub const TURNS: u64 = 72057594037927936;
-
-// Opens a log by its name, which is `-` for standard input. One that cannot be opened is named on standard error, and the answer is negative.
-pub fn open_log(name: &[u8]) -> i32 {
-    if bytes_base::same(name, b"-") {
-        return STDIN_FILENO;
-    }
-    let fd = os::open_read(name);
-    if fd < 0 {
-        os::fail(name);
-    }
-    fd
+// A log's descriptor, or a negative number, and the length of its name.
+pub struct Opened {
+    pub fd: i32,
+    pub size: usize,
 }
 
-// Closes a log, but not standard input, which may be named again.
+// Opens the log that an argument names, `-` for standard input, and keeps the name in a buffer. What cannot be opened is named on standard error.
+pub fn open_log(argument: usize, name: &mut [u8]) -> Opened
+    ensures { λ r. ⌜ r .size ≤ length (now (name .entry)) ⌝ }
+{
+    let size = os::arg(argument, name);
+    if os::errno() != 0 {
+        os::fail(b"argument");
+        return Opened { fd: -1, size: 0 };
+    }
+    if bytes_base::same(&name[..size], b"-") {
+        let fd = STDIN_FILENO;
+        return Opened { fd, size };
+    }
+    let fd = os::open_read(&name[..size]);
+    if fd < 0 {
+        fail_log(name, size);
+    }
+    Opened { fd, size }
+}
+
+// Says of the log whose name is the front of a buffer why it cannot be read.
+pub fn fail_log(name: &[u8], size: usize)
+    requires { ⌜ size ≤ length (now name) ⌝ }
+{
+    os::fail(&name[0..size]);
+}
+
+// Closes a log, but not standard input, which may be named again; a negative number is no log.
 pub fn close_log(fd: i32) {
-    if fd != STDIN_FILENO {
+    if fd > STDIN_FILENO {
         libc::close(fd);
     }
 }
@@ -66,15 +79,4 @@ pub fn fill(fd: i32, buf: &mut [u8]) -> Filled
         have,
         failed: false,
     }
-}
-
-// Writes the front of a buffer out, and answers whether all of it was taken.
-pub fn show(out: &[u8], end: usize) -> bool
-    requires { ⌜ end ≤ length (now out) ⌝ }
-{
-    let written = io::write_all(STDOUT_FILENO, &out[..end]);
-    if !written {
-        os::fail(b"standard output");
-    }
-    written
 }

@@ -1,20 +1,17 @@
--- `replays::main` meets its contract. The arguments are counted up to the last.
+-- `replays::main` meets its contract. Each turn leaves fewer turns.
 -- Assumes nothing.
-use mathlib.Core.Path.{_≡_}
-use lib.ListN.{length}
-use Prim.Native.Nat.{_-_}
 use borrow.Author.Needs.{needs}
+use Rattle.program_logs.specs.Turns.{Standing}
 use Rattle.replays.proofs.main.Statement.{statement}
 use Rattle.replays.proofs.main.Tie as tie
 
 abbrev Inv-loop : tie.InvT-loop
-Inv-loop buf₀ out₀ name₀ count i₀ t7 buf out name i = 4096 ≡ length name
+Inv-loop buf₀ name₀ out₀ area₀ answer₀ logs₀ played₀ buf name out area answer logs played = Standing logs
 
 abbrev μ-loop : tie.MeasureT-loop
-μ-loop buf₀ out₀ name₀ count i₀ t7 buf out name i = count - i
+μ-loop buf₀ name₀ out₀ area₀ answer₀ logs₀ played₀ buf name out area answer logs played = logs .left
 
--- by search: buffer-requires, arg-count-requires, loop-holds, slice-aggregate-arg, arg-requires, errno-requires, array-share-prefix-name,
--- slice-aggregate-replay-named, replay-named-requires, slice-aggregate-fail, fail-requires, add-i, loop-less, loop-again, returns
+-- by search: before-requires, fresh-requires, loop-holds, next-requires, turn-requires, show-requires, loop-less, loop-again, returns
 pub main-spec : {M : Type 1} → statement M
 main-spec =
     tie.close
@@ -24,15 +21,9 @@ main-spec =
     (λ c κs. search needs)
     (λ c κs. search needs)
     (λ c. search needs)
-    (λ c. search needs)
     (λ c κs. search needs)
     (λ c κs. search needs)
-    (λ c. search needs)
-    (λ c. search needs)
     (λ c κs. search needs)
-    (λ c. search needs)
-    (λ c κs. search needs)
-    (λ c. search needs)
     (λ c. search needs)
     (λ c. search needs)
     (λ c. search needs))

@@ -1,0 +1,25 @@
+-- `replays::begin` meets its contract: the heading was written, and the module is fresh.
+-- Assumes nothing.
+use mathlib.Core.Path.{ap}
+use native.Mathlib.Omega.{arith}
+use Rattle.rules.specs.Bytes.{zeros}
+use Rattle.rules.specs.Numbers.{areaSize}
+use Rattle.rules.specs.declared.Device.{Device}
+use Rattle.rules.specs.Record.{moduleOf}
+use borrow.Author.Needs.{needs}
+use Rattle.replays.proofs.begin.Statement.{statement}
+use Rattle.replays.proofs.begin.Tie as tie
+
+returns : tie.Need-returns
+returns c =
+    let h = c .before .put-heading .ensures in
+    (omega (arith, h .0), record { wrote = h .1; module-is = ap (λ (d : Device). moduleOf d (zeros areaSize)) (c .fresh .ensures) })
+
+-- by search: put-heading-requires, fresh-requires
+pub begin-spec : {M : Type 1} → statement M
+begin-spec =
+    tie.close
+    (tie.spec
+    (λ c κs. search needs)
+    (λ c κs. search needs)
+    returns)

@@ -1,0 +1,31 @@
+-- A turn of the replay program: the text that it writes, and the module after it.
+-- Assumes nothing.
+use mathlib.Core.List.{List, [], _++_}
+use Prim.Native.Nat.{ℕ}
+use Rattle.rules.specs.Record.{Module}
+use Rattle.rules.specs.Log.{recordsIn}
+use Rattle.rules.specs.Replay.{replayStart, heading, recordLines, tailLine, lastLine}
+use Rattle.replay_play.specs.declared.Played.{Played}
+use Rattle.replay_play.specs.Replayed.{Replayed}
+use Rattle.replay_log.specs.Places.{partPlayed}
+use Rattle.program_logs.specs.declared.Turn.{Turn}
+use Rattle.program_logs.specs.declared.Turn.the-variants.{Beginning, Part, End, Unreadable, Nothing}
+
+-- a log begins with the heading; each part has its records' lines, and the end the line of a short tail and the last line
+abbrev pub turnText : Turn → (number : ℕ) → Module → (part : List ℕ) → List ℕ
+turnText Beginning number m part = heading
+turnText Part number m part = recordLines number m part (recordsIn part)
+turnText (End short) number m part = tailLine number short ++ lastLine (m .device)
+turnText Unreadable number m part = []
+turnText Nothing number m part = []
+
+-- a log begins with a fresh module, and each part goes on where the one before it left
+abbrev pub turned : Turn → Module → (part : List ℕ) → Module
+turned Beginning m part = replayStart
+turned Part m part = partPlayed m part
+turned (End short) m part = m
+turned Unreadable m part = m
+turned Nothing m part = m
+
+abbrev pub TurnReplayed : Turn → (number : ℕ) → Module → (part old new area : List ℕ) → Played → Type 0
+TurnReplayed turn number m part old new area played = Replayed (turnText turn number m part) (turned turn m part) old 0 new area played
