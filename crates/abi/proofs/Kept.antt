@@ -1,30 +1,15 @@
 -- A reply of the module can be kept, since the bytes are 128 wherever no R number was given; and what was kept is what the C function promises.
 -- Assumes nothing.
-use mathlib.Core.Path.{_≡_, refl, sym, _∙_, ap, subst}
-use mathlib.Core.Bool.{Bool, true, false}
-use mathlib.Core.List.{List, [], _∷_}
+use mathlib.Core.{Path.{_≡_, refl, sym, _∙_, ap, subst}, Bool.{Bool, true, false}, List.{List, [], _∷_}}
 use Prim.Native.Nat.{ℕ, _≤_}
 use native.Mathlib.Omega.{arith}
-use lib.Dec.{lit≤}
-use lib.IntN.{ℤ}
-use lib.ListN.{length}
-use Rattle.rules.specs.Tests.{if_then_else_, _=?_}
-use Rattle.rules.specs.Numbers.{answerRoom}
-use Rattle.rules.specs.Record.{Module, moduleOf}
-use Rattle.rules.specs.Refusals.{verdict, eventChecks, statusLength}
-use Rattle.rules.specs.Table.{rowOf, servedCheck, lengthCheck}
-use Rattle.rules.specs.Module.{Result, callIn, checks, callChecks, outcome, happened, callResult}
-use Rattle.rules.specs.declared.Refusal.the-variants.{R, Status}
-use Rattle.rules.specs.declared.Verdict.{Verdict}
-use Rattle.rules.specs.declared.Verdict.the-variants.{Accepted, Refused}
-use Rattle.rules.specs.declared.Reply.{Reply}
-use Rattle.rules.specs.declared.Device.{Device}
-use Rattle.rules.proofs.page.Past.{NoR, not-by-event, event-passed, call-passed}
-use Rattle.rules.proofs.page.Fitting.{answers}
-use Rattle.module.specs.Promise.{Promised}
-use Rattle.module.specs.declared.Outcome.{Outcome}
-use Rattle.device_bytes.specs.Encoding.{encodedSize, decodeOf}
-use Rattle.device_bytes.proofs.Refused.{possible-whole}
+use lib.{Dec.lit≤, IntN.ℤ, ListN.length}
+use Rattle.rules.{specs.Tests.{if_then_else_, _=?_}, specs.Numbers.answerRoom, specs.Record.{Module, moduleOf}, specs.Refusals.{verdict, eventChecks, statusLength}}
+use Rattle.rules.{specs.Table.{rowOf, servedCheck, lengthCheck}, specs.Module.{Result, callIn, checks, callChecks, outcome, happened, callResult}}
+use Rattle.rules.{specs.declared.Refusal.the-variants.{R, Status}, specs.declared.Verdict.Verdict, specs.declared.Verdict.the-variants.{Accepted, Refused}}
+use Rattle.rules.{specs.declared.Reply.Reply, specs.declared.Device.Device, proofs.page.Past.{NoR, not-by-event, event-passed, call-passed}, proofs.page.Fitting.answers}
+use Rattle.module.{specs.Promise.Promised, specs.declared.Outcome.Outcome}
+use Rattle.device_bytes.{specs.Encoding.{encodedSize, decodeOf}, proofs.Refused.possible-whole}
 use Rattle.abi_keep.specs.Kept.{told, keptBy, kept, Keepable}
 use Rattle.abi.specs.Abi.{Called, Happened}
 

@@ -1,14 +1,10 @@
 -- A fresh record is made where the bytes are 128, and nothing elsewhere.
 -- Assumes nothing.
-use mathlib.Core.Path.{_≡_, sym, _∙_, ap}
-use mathlib.Core.Bool.{Bool}
-use mathlib.Core.List.{List}
+use mathlib.Core.{Path.{_≡_, sym, _∙_, ap}, Bool.Bool, List.List}
 use Prim.Native.Nat.{ℕ}
-use lib.IntN.{ℤ, pos}
-use lib.ListN.{length}
+use lib.{IntN.{ℤ, pos}, ListN.length}
 use borrow.Author.Tests.{eq-eqb, ne-eqb}
-use Rattle.rules.specs.Tests.{if_then_else_}
-use Rattle.rules.specs.Record.{fresh}
+use Rattle.rules.{specs.Tests.if_then_else_, specs.Record.fresh}
 use Rattle.device_bytes.specs.Encoding.{encodedSize, encodeOf}
 use Rattle.abi_keep.specs.Kept.{refusal}
 use Rattle.abi.specs.Abi.{Made}

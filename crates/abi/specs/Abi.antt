@@ -1,8 +1,7 @@
 -- What the C functions promise: the number that they give and every buffer at their end, by equations. The record is bytes (crate device_bytes); what a call,
 -- a tick and a power cycle come to is document 01's (crate rules); what of it is told and kept is abi_keep's.
 -- Assumes nothing.
-use mathlib.Core.Path.{_≡_}
-use mathlib.Core.List.{List}
+use mathlib.Core.{Path._≡_, List.List}
 use Prim.Native.Nat.{ℕ}
 use lib.IntN.{ℤ, pos}
 use lib.ListN.{length}

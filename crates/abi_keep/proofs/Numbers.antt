@@ -3,12 +3,8 @@
 use mathlib.Core.Path.{_≡_, sym, _∙_, ap, subst}
 use Prim.Native.Nat.{ℕ, zero, suc, _≤_, _<_, _^_}
 use native.Mathlib.Omega.{arith}
-use lib.Dec.{lit<}
-use lib.IntN.{ℤ, pos, negℤ, _-ℤ_, +ℤ-idl}
-use lib.Signed.{mag}
-use mir.Syntax.{w8, w32}
-use mir.Val.{Fits, SFits, hbits, toZ, ofZ}
-use mir.Facts.{toZ-pos, toZ-ofZ}
+use lib.{Dec.lit<, IntN.{ℤ, pos, negℤ, _-ℤ_, +ℤ-idl}, Signed.mag}
+use mir.{Syntax.{w8, w32}, Val.{Fits, SFits, hbits, toZ, ofZ}, Facts.{toZ-pos, toZ-ofZ}}
 use Rattle.rules.specs.Numbers.{answerRoom}
 use Rattle.abi_keep.specs.Kept.{refusal}
 

@@ -1,16 +1,10 @@
 -- What a verdict that is known makes of the number given and of the record's bytes.
 -- Assumes nothing.
-use mathlib.Core.Path.{_≡_, sym, _∙_, ap, subst}
-use mathlib.Core.Bool.{Bool, true, false}
-use mathlib.Core.List.{List}
+use mathlib.Core.{Path.{_≡_, sym, _∙_, ap, subst}, Bool.{Bool, true, false}, List.List}
 use Prim.Native.Nat.{ℕ}
 use lib.IntN.{ℤ}
-use Rattle.rules.specs.Tests.{if_then_else_, _=?_}
-use Rattle.rules.specs.declared.Refusal.the-variants.{Status}
-use Rattle.rules.specs.declared.Verdict.{Verdict}
-use Rattle.rules.specs.declared.Verdict.the-variants.{Refused}
-use Rattle.rules.specs.declared.Reply.{Reply}
-use Rattle.rules.specs.declared.Device.{Device}
+use Rattle.rules.{specs.Tests.{if_then_else_, _=?_}, specs.declared.Refusal.the-variants.Status, specs.declared.Verdict.Verdict}
+use Rattle.rules.{specs.declared.Verdict.the-variants.Refused, specs.declared.Reply.Reply, specs.declared.Device.Device}
 use Rattle.device_bytes.specs.Encoding.{encodeOf}
 use Rattle.abi_keep.specs.Kept.{toldBy, told, keptBy, Sized, Keepable}
 

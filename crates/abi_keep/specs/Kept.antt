@@ -1,18 +1,13 @@
 -- What a C function tells its caller of a reply, and what it leaves in the record's bytes (crate device_bytes).
 -- Assumes nothing.
-use mathlib.Core.Path.{_≡_}
-use mathlib.Core.List.{List}
+use mathlib.Core.{Path._≡_, List.List}
 use Prim.Native.Nat.{ℕ, _≤_}
 use lib.IntN.{ℤ, pos, negℤ}
 use lib.ListN.{length}
 use Rattle.rules.specs.Tests.{if_then_else_, _=?_}
 use Rattle.rules.specs.Numbers.{answerRoom}
 use Rattle.rules.specs.Module.{Result}
-use Rattle.rules.specs.declared.Refusal.the-variants.{R, Status}
-use Rattle.rules.specs.declared.Verdict.{Verdict}
-use Rattle.rules.specs.declared.Verdict.the-variants.{Accepted, Refused}
-use Rattle.rules.specs.declared.Reply.{Reply}
-use Rattle.rules.specs.declared.Device.{Device}
+use Rattle.rules.specs.declared.{Refusal.the-variants.{R, Status}, Verdict.Verdict, Verdict.the-variants.{Accepted, Refused}, Reply.Reply, Device.Device}
 use Rattle.device_bytes.specs.Encoding.{encodedSize, encodeOf}
 
 -- R1, R2 and R3 are -1, -2 and -3

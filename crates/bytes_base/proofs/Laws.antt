@@ -1,14 +1,9 @@
 -- Laws of the tests on lists, one for each way that a loop goes on.
-use mathlib.Core.Path.{_≡_, refl, sym, _∙_, ap}
-use mathlib.Core.Bool.{Bool, true, false, _&&_, false≢true}
-use mathlib.Core.List.{List, [], _∷_, _++_}
+use mathlib.Core.{Path.{_≡_, refl, sym, _∙_, ap}, Bool.{Bool, true, false, _&&_, false≢true}, List.{List, [], _∷_, _++_}}
 use Prim.Native.Nat.{ℕ, suc, _≤_, _<_, _+_}
-use native.Mathlib.Nat.{le-of-lt, zero-add}
-use native.Mathlib.Numerals.{add-one}
+use native.Mathlib.{Nat.{le-of-lt, zero-add}, Numerals.add-one}
 use borrow.Author.Tests.{eq-eqb, ne-eqb, eqb-true, eqb-false}
-use lib.Dec.{eqb}
-use lib.ListN.{length, getD, take, drop, set, drop-of-length-le}
-use lib.Seq.{drop-cons, take-suc, append-snoc, set-at, length-take-le, take-length}
+use lib.{Dec.eqb, ListN.{length, getD, take, drop, set, drop-of-length-le}, Seq.{drop-cons, take-suc, append-snoc, set-at, length-take-le, take-length}}
 use Rattle.rules.specs.Bytes.{zeros?, same?, splice}
 
 and-assoc : (a b c : Bool) → ((a && b) && c) ≡ (a && (b && c))

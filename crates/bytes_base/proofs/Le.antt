@@ -1,12 +1,8 @@
 -- Laws of numbers as bytes, stated over the width.
-use mathlib.Core.Path.{_≡_, refl, ap}
-use mathlib.Core.List.{List, _++_, append-nil}
+use mathlib.Core.{Path.{_≡_, refl, ap}, List.{List, _++_, append-nil}}
 use Prim.Native.Nat.{ℕ, zero, suc, _≤_, _<_, _+_, _-_, _^_, _/_, _%_}
-use native.Mathlib.Nat.{pow-suc, div-lt-iff-lt-mul}
-use native.Mathlib.Numerals.{add-one}
-use native.Mathlib.Omega.{arith}
-use lib.ListN.{length, take, set}
-use lib.Seq.{take-suc-set, append-snoc, take-all}
+use native.Mathlib.{Nat.{pow-suc, div-lt-iff-lt-mul}, Numerals.add-one, Omega.arith}
+use lib.{ListN.{length, take, set}, Seq.{take-suc-set, append-snoc, take-all}}
 use Rattle.rules.specs.Bytes.{le, ofLe}
 
 pub length-le : (k n : ℕ) → length (le k n) ≡ k

@@ -1,11 +1,8 @@
 -- Laws of a part that is lent and comes back, and of what is written over a list.
-use mathlib.Core.Path.{_≡_, refl, sym, _∙_, ap}
-use mathlib.Core.List.{List, [], _++_, append-assoc, append-nil}
+use mathlib.Core.{Path.{_≡_, refl, sym, _∙_, ap}, List.{List, [], _++_, append-assoc, append-nil}}
 use Prim.Native.Nat.{ℕ, _≤_, _+_, _-_}
-use native.Mathlib.Nat.{add-sub-cancel-left}
-use native.Mathlib.Omega.{arith}
-use lib.ListN.{length, take, drop, length-append, length-drop, drop-of-length-le}
-use lib.Seq.{take-at, take-all, drop-at, drop-drop, length-take-le}
+use native.Mathlib.{Nat.add-sub-cancel-left, Omega.arith}
+use lib.{ListN.{length, take, drop, length-append, length-drop, drop-of-length-le}, Seq.{take-at, take-all, drop-at, drop-drop, length-take-le}}
 use borrow.Rule.Slice.PartMut.{putMid, post-is, mid-len}
 use Rattle.rules.specs.Bytes.{splice, le}
 use Rattle.bytes_base.proofs.Le.{length-le}

@@ -1,14 +1,10 @@
 -- Lists of bytes, and one byte as a number.
 -- Assumes nothing.
-use mathlib.Core.Path.{_≡_, sym}
-use mathlib.Core.List.{List, [], _∷_}
+use mathlib.Core.{Path.{_≡_, sym}, List.{List, [], _∷_}}
 use Prim.Native.Nat.{ℕ, zero, suc, _<_, _+_}
 use native.Mathlib.Omega.{arith}
-use lib.Dec.{lit<}
-use lib.ListN.{length, getD, take, drop}
-use lib.Seq.{drop-cons, getD-drop}
-use mir.Syntax.{w8}
-use mir.Val.{Fits}
+use lib.{Dec.lit<, ListN.{length, getD, take, drop}, Seq.{drop-cons, getD-drop}}
+use mir.{Syntax.w8, Val.Fits}
 use Rattle.rules.specs.Bytes.{numberAt}
 
 -- every element is below 256

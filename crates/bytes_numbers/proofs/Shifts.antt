@@ -1,15 +1,10 @@
 -- A number put together from its bytes by shifts is the number that the bytes are.
 -- Assumes nothing.
-use mathlib.Core.Path.{_≡_, refl, _∙_, ap}
-use mathlib.Core.List.{List}
+use mathlib.Core.{Path.{_≡_, refl, _∙_, ap}, List.List}
 use Prim.Native.Nat.{ℕ, suc, _≤_, _<_, _+_, _*_, _^_, _%_}
-use native.Mathlib.Nat.{add-comm}
-use native.Mathlib.Omega.{arith}
-use lib.Bits.{bitOr, or-shifted-r}
-use lib.ListN.{length, getD, take, drop}
-use lib.Seq.{drop-cons}
-use mir.Syntax.{w8, w16, w32, w64}
-use mir.Val.{Fits}
+use native.Mathlib.{Nat.add-comm, Omega.arith}
+use lib.{Bits.{bitOr, or-shifted-r}, ListN.{length, getD, take, drop}, Seq.drop-cons}
+use mir.{Syntax.{w8, w16, w32, w64}, Val.Fits}
 use Rattle.rules.specs.Bytes.{ofLe, numberAt}
 use Rattle.bytes_numbers.proofs.Bytes.{Bytes}
 
@@ -77,7 +72,9 @@ eight-shifted x0 x1 x2 x3 x4 x5 x6 x7 h0 h1 h2 h3 h4 h5 h6 h7 =
 
 -- the eight bytes at a place, so put together, are the number there
 pub eight : (s : List ℕ) (at : ℕ) → Bytes s → at + 8 ≤ length s
-    → bitOr (bitOr (bitOr (bitOr (bitOr (bitOr (bitOr (getD s at 0) (getD s (at + 1) 0 * 2 ^ 8 % 2 ^ 64)) (getD s (at + 2) 0 * 2 ^ 16 % 2 ^ 64)) (getD s (at + 3) 0 * 2 ^ 24 % 2 ^ 64)) (getD s (at + 4) 0 * 2 ^ 32 % 2 ^ 64)) (getD s (at + 5) 0 * 2 ^ 40 % 2 ^ 64)) (getD s (at + 6) 0 * 2 ^ 48 % 2 ^ 64)) (getD s (at + 7) 0 * 2 ^ 56 % 2 ^ 64)
+    → bitOr (bitOr (bitOr (bitOr (bitOr (bitOr (bitOr (getD s at 0) (getD s (at + 1) 0 * 2 ^ 8 % 2 ^ 64)) (getD s (at + 2) 0 * 2 ^ 16 % 2 ^ 64)) (getD s
+    (at + 3) 0 * 2 ^ 24 % 2 ^ 64)) (getD s (at + 4) 0 * 2 ^ 32 % 2 ^ 64)) (getD s (at + 5) 0 * 2 ^ 40 % 2 ^ 64)) (getD s (at + 6) 0 * 2 ^ 48 % 2 ^ 64)) (getD s
+    (at + 7) 0 * 2 ^ 56 % 2 ^ 64)
     ≡ numberAt 8 at s
 eight s at bytes h =
     let d0 : numberAt 8 at s ≡ getD s at 0 + 256 * numberAt 7 (at + 1) s = first 7 at (at + 1) s (omega arith) (omega arith) in

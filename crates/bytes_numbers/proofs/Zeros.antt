@@ -1,13 +1,9 @@
 -- Bytes are zero where the numbers in them are, so that a few numbers tell what many bytes would.
 -- Assumes nothing.
-use mathlib.Core.Path.{_≡_, refl, sym, _∙_, ap}
-use mathlib.Core.Bool.{Bool, _&&_}
-use mathlib.Core.List.{List, [], _∷_, _++_}
+use mathlib.Core.{Path.{_≡_, refl, sym, _∙_, ap}, Bool.{Bool, _&&_}, List.{List, [], _∷_, _++_}}
 use Prim.Native.Nat.{ℕ, zero, suc, _+_, _*_}
 use native.Mathlib.Omega.{arith}
-use lib.Dec.{eqb}
-use lib.ListN.{take, drop}
-use lib.Seq.{take-add, drop-drop}
+use lib.{Dec.eqb, ListN.{take, drop}, Seq.{take-add, drop-drop}}
 use borrow.Author.Tests.{ne-eqb}
 use Rattle.rules.specs.Bytes.{ofLe, numberAt, zeros?}
 

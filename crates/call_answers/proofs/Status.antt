@@ -1,12 +1,10 @@
 -- A status, an extended number and zeros, written one after the other over the front of a buffer.
 -- Assumes nothing.
-use mathlib.Core.Path.{_≡_, refl, sym, _∙_, ap}
-use mathlib.Core.List.{List, _∷_, _++_}
+use mathlib.Core.{Path.{_≡_, refl, sym, _∙_, ap}, List.{List, _∷_, _++_}}
 use Prim.Native.Nat.{ℕ, zero, suc}
 use native.Mathlib.Nat.{zero-add}
 use lib.ListN.{length, drop}
-use Rattle.rules.specs.Bytes.{le, splice, zeros}
-use Rattle.rules.specs.Refusals.{statusBytes}
+use Rattle.rules.{specs.Bytes.{le, splice, zeros}, specs.Refusals.statusBytes}
 use Rattle.bytes_base.proofs.Parts.{splice-next}
 
 -- what is written over the front

@@ -1,13 +1,8 @@
 -- Rows that are judged in parts: a refusal of the first part stands, and where the first part accepts, the second decides.
 -- Assumes nothing.
-use mathlib.Core.Path.{_≡_, sym, _∙_, ap}
-use mathlib.Core.Bool.{Bool, false}
-use mathlib.Core.List.{List, _∷_, _++_}
-use Rattle.rules.specs.Refusals.{Check, _gives_, verdict}
-use Rattle.rules.specs.declared.Refusal.{Refusal}
-use Rattle.rules.specs.declared.Verdict.{Verdict}
-use Rattle.rules.specs.declared.Verdict.the-variants.{Accepted, Refused}
-use Rattle.rules.proofs.page.Passed.{andThen, verdict-join}
+use mathlib.Core.{Path.{_≡_, sym, _∙_, ap}, Bool.{Bool, false}, List.{List, _∷_, _++_}}
+use Rattle.rules.{specs.Refusals.{Check, _gives_, verdict}, specs.declared.Refusal.Refusal, specs.declared.Verdict.Verdict}
+use Rattle.rules.{specs.declared.Verdict.the-variants.{Accepted, Refused}, proofs.page.Passed.{andThen, verdict-join}}
 
 pub stands : (rows later : List Check) {refusal : Refusal} → verdict rows ≡ Refused refusal → Refused refusal ≡ verdict (rows ++ later)
 stands rows later e = sym (verdict-join rows later ∙ ap (λ (v : Verdict). andThen v (verdict later)) e)

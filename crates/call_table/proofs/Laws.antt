@@ -1,12 +1,10 @@
 -- Laws of the table: an index that it has, an index that it lacks, a revision that serves nothing.
 -- Assumes nothing.
-use mathlib.Core.Path.{_≡_, refl, sym, _∙_, ap}
-use mathlib.Core.List.{List, [], _∷_}
+use mathlib.Core.{Path.{_≡_, refl, sym, _∙_, ap}, List.{List, [], _∷_}}
 use Prim.Native.Nat.{ℕ, zero, suc}
 use native.Mathlib.Omega.{arith}
 use borrow.Author.Tests.{ne-eqb, le-leb, lt-leb}
-use Rattle.rules.specs.declared.Row.{Row}
-use Rattle.rules.specs.Table.{table, unserved, lookUp, rowOf, mask}
+use Rattle.rules.{specs.declared.Row.Row, specs.Table.{table, unserved, lookUp, rowOf, mask}}
 
 -- a row that looking up a known index computes to is that index's row
 pub row-at : {index place : ℕ} {r : Row} → index ≡ place → r ≡ lookUp place table → r ≡ rowOf index

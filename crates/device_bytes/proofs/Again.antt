@@ -1,20 +1,12 @@
 -- What was decoded encodes to the same bytes: a record's bytes are the only ones that say it.
 -- Assumes nothing.
-use mathlib.Core.Path.{_≡_, refl, sym, _∙_, ap}
-use mathlib.Core.Bool.{true}
-use mathlib.Core.List.{List, [], _∷_, _++_}
+use mathlib.Core.{Path.{_≡_, refl, sym, _∙_, ap}, Bool.true, List.{List, [], _∷_, _++_}}
 use Prim.Native.Nat.{ℕ, zero, suc, _≤_, _<_, _+_, _*_, _/_, _%_}
 use native.Mathlib.Omega.{arith}
-use lib.Dec.{eqb}
-use lib.ListN.{length, take, drop, length-drop, take-append-drop}
-use lib.Seq.{take-add, drop-drop, length-take-le}
+use lib.{Dec.eqb, ListN.{length, take, drop, length-drop, take-append-drop}, Seq.{take-add, drop-drop, length-take-le}}
 use borrow.Author.Tests.{eqb-true}
-use Rattle.rules.specs.Tests.{_=?_}
-use Rattle.rules.specs.Bytes.{le, ofLe, numberAt, zeros, zeros?, splice}
-use Rattle.rules.specs.Record.{phaseNumber}
-use Rattle.rules.specs.Refusals.{oneAttemptMore}
-use Rattle.rules.specs.declared.Device.{Device}
-use Rattle.rules.proofs.page.Choice.{and-true}
+use Rattle.rules.{specs.Tests._=?_, specs.Bytes.{le, ofLe, numberAt, zeros, zeros?, splice}, specs.Record.phaseNumber, specs.Refusals.oneAttemptMore}
+use Rattle.rules.{specs.declared.Device.Device, proofs.page.Choice.and-true}
 use Rattle.bytes_numbers.proofs.Bytes.{Bytes, bytes-drop, bytes-take}
 use Rattle.device_bytes.specs.Encoding.{flag, encodeOf, phaseOf, record?, recordOf, decodeOf}
 use Rattle.device_bytes.proofs.Fine.{Fine, fine}

@@ -1,17 +1,10 @@
 -- What was encoded decodes to the same record.
 -- Assumes nothing.
-use mathlib.Core.Path.{_≡_, refl, _∙_, ap}
-use mathlib.Core.Bool.{Bool, true, false}
-use mathlib.Core.List.{List, _++_}
+use mathlib.Core.{Path.{_≡_, refl, _∙_, ap}, Bool.{Bool, true, false}, List.{List, _++_}}
 use Prim.Native.Nat.{ℕ, _<_, _+_, _^_}
-use lib.ListN.{length, take, drop, length-append}
-use lib.Seq.{take-at, drop-at}
-use Rattle.rules.specs.Tests.{_≤?_, _=?_}
-use Rattle.rules.specs.Bytes.{le, ofLe, numberAt, zeros, zeros?}
-use Rattle.rules.specs.Record.{phaseNumber}
-use Rattle.rules.specs.declared.Phase.{Phase}
-use Rattle.rules.specs.declared.Phase.the-variants.{Idle, Receiving, Verifying, Staged, Failed}
-use Rattle.rules.specs.declared.Device.{Device}
+use lib.{ListN.{length, take, drop, length-append}, Seq.{take-at, drop-at}}
+use Rattle.rules.{specs.Tests.{_≤?_, _=?_}, specs.Bytes.{le, ofLe, numberAt, zeros, zeros?}, specs.Record.phaseNumber, specs.declared.Phase.Phase}
+use Rattle.rules.{specs.declared.Phase.the-variants.{Idle, Receiving, Verifying, Staged, Failed}, specs.declared.Device.Device}
 use Rattle.bytes_base.proofs.Le.{ofLe-le}
 use Rattle.device_bytes.specs.Encoding.{flag, firstBytes, transferBytes, encodedThresholds, encodeOf, phaseOf, record?, recordOf, decodeOf}
 

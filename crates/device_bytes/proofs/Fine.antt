@@ -1,13 +1,10 @@
 -- What the test of a record's bytes says of them.
 -- Assumes nothing.
-use mathlib.Core.Path.{_≡_}
-use mathlib.Core.Bool.{true}
-use mathlib.Core.List.{List}
+use mathlib.Core.{Path._≡_, Bool.true, List.List}
 use Prim.Native.Nat.{ℕ, _≤_}
 use lib.ListN.{length, take, drop}
 use borrow.Author.Tests.{eqb-true, leb-true}
-use Rattle.rules.specs.Bytes.{numberAt, zeros?}
-use Rattle.rules.proofs.page.Choice.{and-true}
+use Rattle.rules.{specs.Bytes.{numberAt, zeros?}, proofs.page.Choice.and-true}
 use Rattle.device_bytes.specs.Encoding.{record?}
 
 pub record Fine (s : List ℕ) : Type 0 where

@@ -1,14 +1,13 @@
 -- What the types of a record's fields say of it, as the types' laws have it.
 -- Assumes nothing.
-use mathlib.Core.Path.{_≡_, refl, sym, _∙_, ap}
-use mathlib.Core.List.{List, [], _∷_, map}
+use mathlib.Core.{Path.{_≡_, refl, sym, _∙_, ap}, List.{List, [], _∷_, map}}
 use Prim.Native.Nat.{ℕ, suc}
 use lib.ListN.{length}
 use mir.Val.{Val}
 use denote.Laws.{Is}
+use Rattle.rules.{specs.declared.Security.Security, specs.declared.Device.Device}
+use Rattle.device_bytes.proofs.Back.{InRange}
 use denote.Struct.Laws as LL
-use Rattle.rules.specs.declared.Security.{Security}
-use Rattle.rules.specs.declared.Device.{Device}
 use Rattle.rules.proofs.Device as D
 use Rattle.rules.proofs.Device.Laws as D′
 use Rattle.rules.proofs.Transfer as T
@@ -17,7 +16,6 @@ use Rattle.rules.proofs.Thresholds as H
 use Rattle.rules.proofs.Thresholds.Laws as H′
 use Rattle.rules.proofs.Security as S
 use Rattle.rules.proofs.Security.Laws as S′
-use Rattle.device_bytes.proofs.Back.{InRange}
 
 same-length : (l : List ℕ) → length (map (λ (x : ℕ). x) l) ≡ length l
 same-length [] = refl

@@ -1,8 +1,6 @@
 -- Bytes that are no record decode to a record that is not possible, which R3 refuses; so a possible record came from 128 bytes.
 -- Assumes nothing.
-use mathlib.Core.Path.{_≡_, refl, sym, _∙_}
-use mathlib.Core.Bool.{Bool, true, false, false≢true}
-use mathlib.Core.List.{List}
+use mathlib.Core.{Path.{_≡_, refl, sym, _∙_}, Bool.{Bool, true, false, false≢true}, List.List}
 use Prim.Native.Nat.{ℕ}
 use lib.ListN.{length}
 use Rattle.rules.specs.Record.{possible, possibleTransfer}

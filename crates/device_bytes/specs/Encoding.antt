@@ -2,19 +2,14 @@
 -- Bytes that are no record decode to a record that is not possible, so that R3 refuses them.
 -- Assumes nothing.
 use Prim.Native.Nat.{ℕ}
-use mathlib.Core.List.{List, _++_}
-use mathlib.Core.Bool.{Bool, _&&_}
+use mathlib.Core.{List.{List, _++_}, Bool.{Bool, _&&_}}
 use lib.ListN.{length, take, drop}
 use Rattle.rules.specs.Tests.{if_then_else_, _≤?_, _=?_}
 use Rattle.rules.specs.Bytes.{le, numberAt, zeros, zeros?}
 use Rattle.rules.specs.With.{_with-transfer_, _with-phase_}
 use Rattle.rules.specs.Record.{phaseNumber, fresh}
-use Rattle.rules.specs.declared.Phase.{Phase}
-use Rattle.rules.specs.declared.Phase.the-variants.{Idle, Receiving, Verifying, Staged, Failed}
-use Rattle.rules.specs.declared.Transfer.{Transfer}
-use Rattle.rules.specs.declared.Thresholds.{Thresholds}
-use Rattle.rules.specs.declared.Security.{Security}
-use Rattle.rules.specs.declared.Device.{Device}
+use Rattle.rules.specs.declared.{Phase.Phase, Phase.the-variants.{Idle, Receiving, Verifying, Staged, Failed}, Transfer.Transfer, Thresholds.Thresholds}
+use Rattle.rules.specs.declared.{Security.Security, Device.Device}
 
 -- the bytes of a record
 abbrev pub encodedSize : ℕ

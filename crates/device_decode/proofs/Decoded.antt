@@ -1,13 +1,9 @@
 -- The decoding functions against the definitions, over plain values.
 -- Assumes nothing.
-use mathlib.Core.Path.{_≡_, refl, _∙_, ap}
-use mathlib.Core.Bool.{Bool, _&&_}
-use mathlib.Core.List.{List}
+use mathlib.Core.{Path.{_≡_, refl, _∙_, ap}, Bool.{Bool, _&&_}, List.List}
 use Prim.Native.Nat.{ℕ}
-use lib.Dec.{leb, eqb}
-use lib.ListN.{length, take, drop}
-use Rattle.rules.specs.Bytes.{numberAt, zeros?}
-use Rattle.rules.specs.declared.Phase.{Phase}
+use lib.{Dec.{leb, eqb}, ListN.{length, take, drop}}
+use Rattle.rules.{specs.Bytes.{numberAt, zeros?}, specs.declared.Phase.Phase}
 use Rattle.device_bytes.specs.Encoding.{phaseOf, record?, recordOf}
 
 pub tested : (s : List ℕ) {phase enabled locked frozen unused : ℕ} {between after : Bool} → length s ≡ 128

@@ -1,8 +1,6 @@
 -- What a run of stores makes: each writes right behind the one before, so that all of them are one.
 -- Assumes nothing.
-use mathlib.Core.Path.{_≡_, refl, _∙_, ap}
-use mathlib.Core.Bool.{Bool, true, false}
-use mathlib.Core.List.{List, _++_}
+use mathlib.Core.{Path.{_≡_, refl, _∙_, ap}, Bool.{Bool, true, false}, List.{List, _++_}}
 use Prim.Native.Nat.{ℕ, _≤_, _+_}
 use lib.ListN.{length}
 use mir.Val.{boolByte}

@@ -1,22 +1,12 @@
 -- What the code's tests say of the slots, and what each function gives and writes by them.
 -- Assumes nothing.
-use mathlib.Core.Path.{_≡_, refl, sym, _∙_, ap}
-use mathlib.Core.Bool.{Bool, true, false, not, _&&_}
-use mathlib.Core.List.{List, [], _∷_, _++_, append-nil}
+use mathlib.Core.{Path.{_≡_, refl, sym, _∙_, ap}, Bool.{Bool, true, false, not, _&&_}, List.{List, [], _∷_, _++_, append-nil}}
 use Prim.Native.Nat.{ℕ, suc, _≤_, _<_, _+_, _-_, _^_}
 use native.Mathlib.Omega.{arith}
-use lib.IntN.{ℤ, pos}
-use lib.ListN.{length, take, drop, set, length-append, length-drop, drop-of-length-le}
-use lib.Seq.{length-take-le}
-use borrow.Author.Tests.{not-true, not-false, eqb-true, leb-true, eq-eqb, ne-eqb, le-leb}
-use borrow.Rule.Slice.PartMut.{putMid}
-use mir.Syntax.{w32}
-use mir.Val.{toZ, hbits}
-use mir.Facts.{toZ-pos}
-use Rattle.rules.specs.Tests.{_≤?_, _=?_}
-use Rattle.rules.specs.Bytes.{le, splice, zeros}
-use Rattle.rules.specs.Record.{fresh}
-use Rattle.rules.proofs.page.Choice.{and-true}
+use lib.{IntN.{ℤ, pos}, ListN.{length, take, drop, set, length-append, length-drop, drop-of-length-le}, Seq.length-take-le}
+use borrow.{Author.Tests.{not-true, not-false, eqb-true, leb-true, eq-eqb, ne-eqb, le-leb}, Rule.Slice.PartMut.putMid}
+use mir.{Syntax.w32, Val.{toZ, hbits}, Facts.toZ-pos}
+use Rattle.rules.{specs.Tests.{_≤?_, _=?_}, specs.Bytes.{le, splice, zeros}, specs.Record.fresh, proofs.page.Choice.and-true}
 use Rattle.bytes_base.proofs.Parts.{lent, splice-splice, copy-whole}
 use Rattle.device_bytes.specs.Encoding.{encodedSize, encodeOf}
 use Rattle.device_slots.specs.Slots.{slotsSize, slotPlace, slot, selector, other, slots?, refused, freshNumber, freshSlots, writeNumber, writeSlots, selectNumber, selectSlots, readNumber, readRecord}

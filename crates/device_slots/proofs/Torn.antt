@@ -1,24 +1,15 @@
 -- Power may go at any moment of an update: specs/Torn.antt, proved. The selector and the selected slot lie outside of what a write touches, byte by byte.
 -- Assumes nothing.
-use mathlib.Core.Path.{_≡_, refl, sym, _∙_, ap}
-use mathlib.Core.Logic.{_⊎_, inl, inr, ⊎-elim}
-use mathlib.Core.Bool.{Bool, true, false, _&&_}
-use mathlib.Core.List.{List, [], _∷_, _++_}
+use mathlib.Core.{Path.{_≡_, refl, sym, _∙_, ap}, Logic.{_⊎_, inl, inr, ⊎-elim}, Bool.{Bool, true, false, _&&_}, List.{List, [], _∷_, _++_}}
 use Prim.Native.Nat.{ℕ, zero, suc, _≤_, _<_, _+_, _-_, _*_}
 use native.Mathlib.Omega.{arith}
-use lib.IntN.{pos}
-use lib.ListN.{length, getD, take, drop, length-append, length-drop}
-use lib.Seq.{take-at, length-take-le, ext-getD}
+use lib.{IntN.pos, ListN.{length, getD, take, drop, length-append, length-drop}, Seq.{take-at, length-take-le, ext-getD}}
 use borrow.Author.Tests.{eqb-true, eq-eqb, leb-true, le-leb}
-use Rattle.rules.specs.Tests.{if_then_else_, _≤?_, _=?_}
-use Rattle.rules.specs.Bytes.{splice, zeros}
-use Rattle.rules.specs.Record.{fresh}
-use Rattle.rules.proofs.page.Choice.{and-true}
+use Rattle.rules.{specs.Tests.{if_then_else_, _≤?_, _=?_}, specs.Bytes.{splice, zeros}, specs.Record.fresh, proofs.page.Choice.and-true}
 use Rattle.device_bytes.specs.Encoding.{encodedSize, encodeOf}
 use Rattle.device_slots.specs.Slots.{slotsSize, slotPlace, slot, selector, other, slots?, refused, writable, writeNumber, writeSlots, selectable, selectNumber, selectSlots}
 use Rattle.device_slots.specs.Torn.{Torn, Reads, WriteLeaves, WriteKeeps, SelectWhole, SelectOnce, SelectGives, FreshReads, NoSlots, Updates}
-use Rattle.device_slots.proofs.Tested.{Fine, fine, are-slots, fresh-long}
-use Rattle.device_slots.proofs.Parts.{outside, same-part, there, behind-first}
+use Rattle.device_slots.proofs.{Tested.{Fine, fine, are-slots, fresh-long}, Parts.{outside, same-part, there, behind-first}}
 
 -- ---- What is read ----
 

@@ -2,8 +2,7 @@
 -- bytes 129 to 256. The record is that of the selected slot. What each function gives, and the buffer that it writes, refusals too.
 -- Assumes nothing.
 use Prim.Native.Nat.{ℕ, _+_, _-_, _*_}
-use mathlib.Core.List.{List, _∷_, _++_}
-use mathlib.Core.Bool.{Bool, _&&_}
+use mathlib.Core.{List.{List, _∷_, _++_}, Bool.{Bool, _&&_}}
 use lib.IntN.{ℤ, pos, negℤ}
 use lib.ListN.{length, getD, take, drop}
 use Rattle.rules.specs.Tests.{if_then_else_, _≤?_, _=?_}

@@ -1,10 +1,7 @@
 -- What the slots are for: power may go at any moment of an update, and reading then gives the record before it or the record after it, never a mixture.
 -- An update is a slots_write, then a slots_select of the slot that it gave; between the two the caller waits until the slot is in memory.
 -- Assumes nothing.
-use mathlib.Core.Path.{_≡_}
-use mathlib.Core.Logic.{_⊎_}
-use mathlib.Core.Bool.{false}
-use mathlib.Core.List.{List}
+use mathlib.Core.{Path._≡_, Logic._⊎_, Bool.false, List.List}
 use Prim.Native.Nat.{ℕ}
 use lib.IntN.{pos}
 use lib.ListN.{length, getD, drop}

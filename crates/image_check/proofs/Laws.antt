@@ -1,19 +1,12 @@
 -- Laws of the loop over the records, of a good size, and of what the tests together say.
 -- Assumes nothing.
-use mathlib.Core.Path.{_≡_, sym, _∙_, ap}
-use mathlib.Core.Bool.{Bool, true, false, not, _&&_}
-use mathlib.Core.List.{List}
+use mathlib.Core.{Path.{_≡_, sym, _∙_, ap}, Bool.{Bool, true, false, not, _&&_}, List.List}
 use Prim.Native.Nat.{ℕ, suc, _+_, _-_, _*_, _/_, _≤_, _<_}
-use native.Mathlib.Nat.{add-sub-cancel-left}
-use native.Mathlib.Omega.{arith}
-use lib.Dec.{leb, eqb}
-use lib.ListN.{length, take, drop}
-use lib.Seq.{drop-drop}
+use native.Mathlib.{Nat.add-sub-cancel-left, Omega.arith}
+use lib.{Dec.{leb, eqb}, ListN.{length, take, drop}, Seq.drop-drop}
 use borrow.Author.Tests.{leb-true, eqb-true}
-use Rattle.rules.specs.Image.{goodRecord, goodRecords, goodSize, versionOf, goodImage, imageOf}
-use Rattle.rules.specs.Tests.{_=?_, if_then_else_}
-use Rattle.rules.specs.declared.Image.the-variants.{Good, Bad}
-use Rattle.rules.proofs.page.Choice.{and-true}
+use Rattle.rules.{specs.Image.{goodRecord, goodRecords, goodSize, versionOf, goodImage, imageOf}, specs.Tests.{_=?_, if_then_else_}}
+use Rattle.rules.{specs.declared.Image.the-variants.{Good, Bad}, proofs.page.Choice.and-true}
 
 -- the records from number i on are record i and those from the next on
 records-from : (n version i : ℕ) (bytes : List ℕ) → i < n

@@ -1,17 +1,10 @@
 -- Laws of a record's sum, and of its fields' test.
 -- Assumes nothing.
-use mathlib.Core.Path.{_≡_, _∙_, ap}
-use mathlib.Core.Bool.{Bool, true, false, _&&_}
-use mathlib.Core.List.{List}
+use mathlib.Core.{Path.{_≡_, _∙_, ap}, Bool.{Bool, true, false, _&&_}, List.List}
 use Prim.Native.Nat.{ℕ, zero, suc, _+_, _*_, _%_, _^_}
-use native.Mathlib.Nat.{mod-add-mod}
-use native.Mathlib.Numerals.{add-one}
-use native.Mathlib.Omega.{arith}
-use lib.ListN.{take, drop}
-use lib.Seq.{drop-drop}
-use Rattle.rules.specs.Bytes.{ofLe, numberAt}
-use Rattle.rules.specs.Image.{sumOfWords, goodRecord}
-use Rattle.rules.specs.Tests.{_=?_}
+use native.Mathlib.{Nat.mod-add-mod, Numerals.add-one, Omega.arith}
+use lib.{ListN.{take, drop}, Seq.drop-drop}
+use Rattle.rules.{specs.Bytes.{ofLe, numberAt}, specs.Image.{sumOfWords, goodRecord}, specs.Tests._=?_}
 
 -- the sum of one word more is the sum so far and that word
 sum-of-one-more : (words : ℕ) (bytes : List ℕ)

@@ -3,8 +3,7 @@
 use mathlib.Core.List.{List}
 use Prim.Native.Nat.{ℕ}
 use Rattle.rules.specs.Log.{hostIn, revisionIn, functionIn, lengthIn}
-use Rattle.rules.specs.declared.Entry.{Entry}
-use Rattle.rules.specs.declared.Entry.the-variants.{Call}
+use Rattle.rules.specs.declared.{Entry.Entry, Entry.the-variants.Call}
 
 abbrev pub callEntry : List ℕ → Entry
 callEntry bytes = Call (hostIn bytes) (revisionIn bytes) (functionIn bytes) (lengthIn bytes)

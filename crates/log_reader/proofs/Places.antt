@@ -1,19 +1,12 @@
 -- What stands at a place of a log, case by case: before the tail, at the tail, and past it.
 -- Assumes nothing.
-use mathlib.Core.Path.{_≡_, refl, ap, sym, _∙_}
-use mathlib.Core.Bool.{Bool, true, false, _&&_}
-use mathlib.Core.List.{List}
+use mathlib.Core.{Path.{_≡_, refl, ap, sym, _∙_}, Bool.{Bool, true, false, _&&_}, List.List}
 use Prim.Native.Nat.{ℕ, _≤_, _<_, _+_, _-_, _*_}
-use native.Mathlib.Nat.{add-sub-cancel-left}
-use native.Mathlib.Omega.{arith}
+use native.Mathlib.{Nat.add-sub-cancel-left, Omega.arith}
 use borrow.Author.Tests.{lt-ltb, le-ltb, ltb-true}
 use lib.ListN.{take, drop}
-use Rattle.rules.specs.Tests.{if_then_else_, _<?_, _=?_}
-use Rattle.rules.specs.Log.{recordSize, entryOf, recordsIn, recordAt, shortTail}
-use Rattle.rules.specs.declared.Entry.{Entry}
-use Rattle.log_reader.specs.declared.Found.{Found}
-use Rattle.log_reader.specs.declared.Found.the-variants.{Record, Short, End}
-use Rattle.log_reader.specs.Reader.{stands, stoodAt}
+use Rattle.rules.{specs.Tests.{if_then_else_, _<?_, _=?_}, specs.Log.{recordSize, entryOf, recordsIn, recordAt, shortTail}, specs.declared.Entry.Entry}
+use Rattle.log_reader.specs.{declared.Found.Found, declared.Found.the-variants.{Record, Short, End}, Reader.{stands, stoodAt}}
 
 abbrev record? : Found → ℕ
 record? (Record e) = 1

@@ -1,22 +1,15 @@
 -- Walking a log: a reader made from it finds its records in order, then its short tail if it has one, then the end for ever; and it looks at each place
 -- once, in order, until it stays at the end. So no place is skipped and none is read twice.
 -- Assumes nothing.
-use mathlib.Core.Path.{_≡_, refl, ap, sym, _∙_}
-use mathlib.Core.Bool.{Bool, true, false, _&&_}
-use mathlib.Core.List.{List, _∷_, _++_}
+use mathlib.Core.{Path.{_≡_, refl, ap, sym, _∙_}, Bool.{Bool, true, false, _&&_}, List.{List, _∷_, _++_}}
 use Prim.Native.Nat.{ℕ, zero, suc, _≤_, _<_, _+_}
-use native.Mathlib.Nat.{zero-add, add-zero}
-use native.Mathlib.Omega.{arith}
+use native.Mathlib.{Nat.{zero-add, add-zero}, Omega.arith}
 use borrow.Author.Tests.{eq-eqb, ne-eqb}
 use lib.ListN.{length, replicate}
 use denote.Ref.{RefT, now}
-use Rattle.rules.specs.Tests.{_=?_}
-use Rattle.rules.specs.Log.{entryOf, recordsIn, recordAt, shortTail}
-use Rattle.log_reader.specs.declared.Found.{Found}
-use Rattle.log_reader.specs.declared.Found.the-variants.{Record, Short, End}
-use Rattle.log_reader.specs.declared.Stood.{Stood}
-use Rattle.log_reader.specs.Reader.{stands, stoodAt, readerAt, readerOf}
-use Rattle.log_reader.specs.Walk.{walk, recordsFrom, tailAt, tailOf, endOf}
+use Rattle.rules.{specs.Tests._=?_, specs.Log.{entryOf, recordsIn, recordAt, shortTail}}
+use Rattle.log_reader.specs.{declared.Found.Found, declared.Found.the-variants.{Record, Short, End}, declared.Stood.Stood}
+use Rattle.log_reader.specs.{Reader.{stands, stoodAt, readerAt, readerOf}, Walk.{walk, recordsFrom, tailAt, tailOf, endOf}}
 use Rattle.log_reader.proofs.Places.{at-record, at-tail, at-end}
 
 module _ (log : RefT (List ℕ)) where

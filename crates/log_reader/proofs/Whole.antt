@@ -1,11 +1,9 @@
 -- The records that a walk finds, and the tail, are all the bytes of the log, in order; and the tail has the bytes that 544 leaves over.
 -- Assumes nothing.
-use mathlib.Core.Path.{_≡_, sym, _∙_, ap}
-use mathlib.Core.List.{List, _++_, append-assoc}
+use mathlib.Core.{Path.{_≡_, sym, _∙_, ap}, List.{List, _++_, append-assoc}}
 use Prim.Native.Nat.{ℕ, zero, suc, _+_, _*_, _%_, _-_}
 use native.Mathlib.Omega.{arith}
-use lib.ListN.{length, drop, take-append-drop, length-drop}
-use lib.Seq.{drop-drop}
+use lib.{ListN.{length, drop, take-append-drop, length-drop}, Seq.drop-drop}
 use Rattle.rules.specs.Log.{recordSize, recordsIn, recordAt}
 use Rattle.log_reader.specs.Walk.{bytesFrom, tailBytes}
 

@@ -1,16 +1,11 @@
 -- Document 01, "The replay program": what stands at a place of a log, by the definitions of a log's records and tail; a reader of a log, and its step.
 -- Assumes nothing.
 use Prim.Native.Nat.{ℕ, _+_}
-use mathlib.Core.Bool.{_&&_}
-use mathlib.Core.List.{List}
+use mathlib.Core.{Bool._&&_, List.List}
 use denote.Ref.{RefT, now}
 use Rattle.rules.specs.Tests.{if_then_else_, _<?_, _=?_}
 use Rattle.rules.specs.Log.{entryOf, recordsIn, recordAt, shortTail}
-use Rattle.log_reader.specs.declared.Found.{Found}
-use Rattle.log_reader.specs.declared.Found.the-variants.{Record, Short, End}
-use Rattle.log_reader.specs.declared.Stood.{Stood}
-use Rattle.log_reader.specs.declared.LogReader.{LogReader}
-use Rattle.log_reader.specs.declared.Step.{Step}
+use Rattle.log_reader.specs.declared.{Found.Found, Found.the-variants.{Record, Short, End}, Stood.Stood, LogReader.LogReader, Step.Step}
 
 abbrev pub stands : Found → (next : ℕ) → Stood
 stands found next = record { found = found; place = next }

@@ -1,14 +1,11 @@
 -- A walk of a log: at which places a reader looks, step by step, and what it finds there; and what the log holds, place by place.
 -- Assumes nothing.
 use Prim.Native.Nat.{ℕ, zero, suc, _+_, _*_}
-use mathlib.Core.Bool.{Bool}
-use mathlib.Core.List.{List, [], _∷_, _++_}
+use mathlib.Core.{Bool.Bool, List.{List, [], _∷_, _++_}}
 use lib.ListN.{length, drop}
 use Rattle.rules.specs.Tests.{if_then_else_}
 use Rattle.rules.specs.Log.{recordSize, entryOf, recordsIn, recordAt, shortTail}
-use Rattle.log_reader.specs.declared.Found.{Found}
-use Rattle.log_reader.specs.declared.Found.the-variants.{Record, Short}
-use Rattle.log_reader.specs.declared.LogReader.{LogReader}
+use Rattle.log_reader.specs.declared.{Found.Found, Found.the-variants.{Record, Short}, LogReader.LogReader}
 use Rattle.log_reader.specs.Reader.{stepOf}
 
 -- so many steps of a reader: the place of each, and what was found there

@@ -1,14 +1,10 @@
 -- What a record says, by its kind.
 -- Assumes nothing.
-use mathlib.Core.Path.{_≡_, refl, sym, _∙_, ap}
-use mathlib.Core.Bool.{Bool, true, false, _&&_}
-use mathlib.Core.List.{List}
+use mathlib.Core.{Path.{_≡_, refl, sym, _∙_, ap}, Bool.{Bool, true, false, _&&_}, List.List}
 use Prim.Native.Nat.{ℕ}
 use lib.ListN.{length}
 use borrow.Author.Tests.{eq-eqb, ne-eqb}
-use Rattle.rules.specs.Tests.{if_then_else_, _=?_}
-use Rattle.rules.specs.Log.{entryOf, kindIn, goodCall, bare}
-use Rattle.rules.specs.declared.Entry.{Entry}
+use Rattle.rules.{specs.Tests.{if_then_else_, _=?_}, specs.Log.{entryOf, kindIn, goodCall, bare}, specs.declared.Entry.Entry}
 use Rattle.rules.specs.declared.Entry.the-variants.{Tick, Power, Bad}
 use Rattle.log_call.specs.Call.{callEntry}
 

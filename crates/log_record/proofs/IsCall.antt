@@ -1,18 +1,12 @@
 -- What it says of a record that it is a call: where its fields stand, and that its request fits it.
 -- Assumes nothing.
-use mathlib.Core.Path.{_≡_, refl, _∙_, ap}
-use mathlib.Core.Bool.{Bool, true, false, not, _&&_}
-use mathlib.Core.List.{List}
+use mathlib.Core.{Path.{_≡_, refl, _∙_, ap}, Bool.{Bool, true, false, not, _&&_}, List.List}
 use Prim.Native.Nat.{ℕ, _+_, _-_, _≤_}
-use native.Mathlib.Nat.{add-sub-cancel-left}
-use native.Mathlib.Omega.{arith}
+use native.Mathlib.{Nat.add-sub-cancel-left, Omega.arith}
 use lib.ListN.{length, take, drop}
 use borrow.Author.Tests.{eqb-true, leb-true}
-use Rattle.rules.specs.Tests.{if_then_else_, _=?_, _≤?_}
-use Rattle.rules.specs.Log.{entryOf, kindIn, hostIn, revisionIn, functionIn, lengthIn, requestIn, goodCall, padded, bare}
-use Rattle.rules.specs.declared.Entry.{Entry}
-use Rattle.rules.specs.declared.Entry.the-variants.{Call, Tick, Power, Bad}
-use Rattle.rules.proofs.page.Choice.{and-true}
+use Rattle.rules.{specs.Tests.{if_then_else_, _=?_, _≤?_}, specs.Log.{entryOf, kindIn, hostIn, revisionIn, functionIn, lengthIn, requestIn, goodCall, padded, bare}}
+use Rattle.rules.{specs.declared.Entry.Entry, specs.declared.Entry.the-variants.{Call, Tick, Power, Bad}, proofs.page.Choice.and-true}
 use Rattle.log_call.specs.Call.{callEntry}
 
 pub record IsCall (bytes : List ℕ) (host revision function size : ℕ) : Type 0 where

@@ -1,11 +1,9 @@
 -- Any two results that an entry point's promise allows agree: one reply, one record, one area, one answer buffer.
 -- Assumes nothing.
-use mathlib.Core.Path.{_≡_, sym, _∙_}
-use mathlib.Core.List.{List}
+use mathlib.Core.{Path.{_≡_, sym, _∙_}, List.List}
 use Prim.Native.Nat.{ℕ}
 use Rattle.rules.specs.Module.{Result}
-use Rattle.module.specs.declared.Outcome.{Outcome}
-use Rattle.module.specs.Promise.{Promised}
+use Rattle.module.specs.{declared.Outcome.Outcome, Promise.Promised}
 
 pub agree : (result : Result) (o₁ o₂ : Outcome) (area₁ area₂ answer₁ answer₂ : List ℕ)
     → Promised result o₁ area₁ answer₁ → Promised result o₂ area₂ answer₂

@@ -1,29 +1,15 @@
 -- A verdict that is known settles the definition's result: what a call, a tick and a power cycle come to.
 -- Assumes nothing.
-use mathlib.Core.Path.{_≡_, refl, sym, _∙_, ap, subst}
-use mathlib.Core.Bool.{Bool, true, false}
-use mathlib.Core.List.{List, [], _∷_, _++_}
+use mathlib.Core.{Path.{_≡_, refl, sym, _∙_, ap, subst}, Bool.{Bool, true, false}, List.{List, [], _∷_, _++_}}
 use Prim.Native.Nat.{ℕ, _≤_, _-_}
-use lib.Dec.{lit≤}
-use lib.ListN.{length}
-use Rattle.rules.specs.Tests.{if_then_else_, _=?_}
-use Rattle.rules.specs.Bytes.{zeros}
-use Rattle.rules.specs.Numbers.{answerRoom}
-use Rattle.rules.specs.Record.{Module, moduleOf, _with-device_}
-use Rattle.rules.specs.Refusals.{verdict, eventChecks, statusBytes, statusLength, answerAfter, recordLeft}
-use Rattle.rules.specs.Table.{rowOf, servedCheck, lengthCheck}
+use lib.{Dec.lit≤, ListN.length}
+use Rattle.rules.{specs.Tests.{if_then_else_, _=?_}, specs.Bytes.zeros, specs.Numbers.answerRoom, specs.Record.{Module, moduleOf, _with-device_}}
+use Rattle.rules.{specs.Refusals.{verdict, eventChecks, statusBytes, statusLength, answerAfter, recordLeft}, specs.Table.{rowOf, servedCheck, lengthCheck}}
 use Rattle.rules.specs.Module.{Result, callOf, callIn, checks, acceptedAnswer, change, gateChecks, callChecks, outcome, happened, callResult}
-use Rattle.rules.specs.declared.Refusal.{Refusal}
-use Rattle.rules.specs.declared.Refusal.the-variants.{R, Status}
-use Rattle.rules.specs.declared.Verdict.{Verdict}
-use Rattle.rules.specs.declared.Verdict.the-variants.{Accepted, Refused}
-use Rattle.rules.specs.declared.Row.{Row}
-use Rattle.rules.specs.declared.Device.{Device}
-use Rattle.rules.proofs.page.Passed.{both-accepted}
-use Rattle.rules.proofs.page.Past.{NoR, EventPassed, call-passed}
-use Rattle.rules.proofs.page.Fitting.{Fitting, gate-fits, answers}
-use Rattle.module.specs.declared.Outcome.{Outcome}
-use Rattle.module.specs.Promise.{Promised}
+use Rattle.rules.{specs.declared.Refusal.Refusal, specs.declared.Refusal.the-variants.{R, Status}, specs.declared.Verdict.Verdict}
+use Rattle.rules.{specs.declared.Verdict.the-variants.{Accepted, Refused}, specs.declared.Row.Row, specs.declared.Device.Device, proofs.page.Passed.both-accepted}
+use Rattle.rules.{proofs.page.Past.{NoR, EventPassed, call-passed}, proofs.page.Fitting.{Fitting, gate-fits, answers}}
+use Rattle.module.specs.{declared.Outcome.Outcome, Promise.Promised}
 
 abbrev given : Device → Verdict → ℕ → Outcome
 given device v n = record { device = device; reply = record { verdict = v; length = n } }

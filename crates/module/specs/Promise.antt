@@ -1,7 +1,6 @@
 -- What an entry point promises: the reply, the new record, the area and the answer buffer are those of the definition, on refusals too.
 -- Assumes nothing.
-use mathlib.Core.Path.{_≡_}
-use mathlib.Core.List.{List}
+use mathlib.Core.{Path._≡_, List.List}
 use Prim.Native.Nat.{ℕ}
 use Rattle.rules.specs.Module.{Result}
 use Rattle.module.specs.declared.Outcome.{Outcome}

@@ -1,9 +1,7 @@
 -- Any two results that the promise of a tick in place allows agree: one reply, and one record behind the reference.
 -- Assumes nothing.
 use mathlib.Core.Path.{_≡_, sym, _∙_}
-use Rattle.rules.specs.Record.{Module}
-use Rattle.rules.specs.declared.Device.{Device}
-use Rattle.rules.specs.declared.Reply.{Reply}
+use Rattle.rules.{specs.Record.Module, specs.declared.Device.Device, specs.declared.Reply.Reply}
 use Rattle.module_clock.specs.InPlace.{TickedInPlace}
 
 pub agree : (before : Module) (reply₁ reply₂ : Reply) (after₁ after₂ : Device)

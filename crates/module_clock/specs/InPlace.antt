@@ -4,8 +4,7 @@
 use mathlib.Core.Path.{_≡_}
 use Rattle.rules.specs.Record.{Module}
 use Rattle.rules.specs.Module.{tickResult}
-use Rattle.rules.specs.declared.Device.{Device}
-use Rattle.rules.specs.declared.Reply.{Reply}
+use Rattle.rules.specs.declared.{Device.Device, Reply.Reply}
 
 pub record TickedInPlace (before : Module) (reply : Reply) (after : Device) : Type 0 where
   pub reply-is : reply ≡ tickResult before .reply

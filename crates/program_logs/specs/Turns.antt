@@ -1,13 +1,10 @@
 -- The turns in which a program goes through its logs: what comes after what, and how the records are numbered.
 -- Assumes nothing.
-use mathlib.Core.Path.{_≡_}
-use mathlib.Core.Bool.{Bool, not}
+use mathlib.Core.{Path._≡_, Bool.{Bool, not}}
 use Prim.Native.Nat.{ℕ, _+_, _*_, _/_, _%_, _≤_}
 use Rattle.rules.specs.Tests.{if_then_else_, _=?_}
 use Rattle.rules.specs.Log.{recordSize}
-use Rattle.program_logs.specs.declared.Turn.{Turn}
-use Rattle.program_logs.specs.declared.Turn.the-variants.{Beginning, Part, End, Unreadable, Nothing}
-use Rattle.program_logs.specs.declared.Logs.{Logs}
+use Rattle.program_logs.specs.declared.{Turn.Turn, Turn.the-variants.{Beginning, Part, End, Unreadable, Nothing}, Logs.Logs}
 
 -- the buffer that a log is read into
 abbrev pub partSize : ℕ

@@ -1,13 +1,8 @@
 -- A call's line, by whether the function is 0.
 -- Assumes nothing.
-use mathlib.Core.Path.{_≡_, sym, _∙_, ap}
-use mathlib.Core.Bool.{Bool, true, false}
-use mathlib.Core.List.{List, _++_}
+use mathlib.Core.{Path.{_≡_, sym, _∙_, ap}, Bool.{Bool, true, false}, List.{List, _++_}}
 use Prim.Native.Nat.{ℕ}
-use Rattle.rules.specs.Tests.{_=?_, if_then_else_}
-use Rattle.rules.specs.Text.{field}
-use Rattle.rules.specs.Replay.{printedStatus, printedExt, callLine}
-use Rattle.rules.specs.declared.Reply.{Reply}
+use Rattle.rules.{specs.Tests.{_=?_, if_then_else_}, specs.Text.field, specs.Replay.{printedStatus, printedExt, callLine}, specs.declared.Reply.Reply}
 
 module _ (number index : ℕ) (reply : Reply) where
   abbrev maskLine : List ℕ

@@ -1,21 +1,13 @@
 -- What stands at a place of a log, as it is played: the three things that a reader finds.
 -- Assumes nothing.
-use mathlib.Core.Path.{_≡_, refl, sym, _∙_, ap, subst}
-use mathlib.Core.List.{List, [], _++_}
+use mathlib.Core.{Path.{_≡_, refl, sym, _∙_, ap, subst}, List.{List, [], _++_}}
 use Prim.Native.Nat.{ℕ, _+_, _-_, _*_, _≤_, _<_}
-use native.Mathlib.Nat.{add-zero, add-sub-cancel-left}
-use native.Mathlib.Omega.{arith}
+use native.Mathlib.{Nat.{add-zero, add-sub-cancel-left}, Omega.arith}
 use lib.ListN.{length, take, drop, take-append-drop}
-use Rattle.rules.specs.Record.{Module}
-use Rattle.rules.specs.Log.{entryOf, recordsIn, recordAt}
-use Rattle.rules.specs.declared.Entry.{Entry}
-use Rattle.log_reader.specs.declared.Found.{Found}
-use Rattle.log_reader.specs.declared.Found.the-variants.{Record}
-use Rattle.log_reader.specs.declared.Stood.{Stood}
-use Rattle.log_reader.specs.Reader.{stoodAt}
+use Rattle.rules.{specs.Record.Module, specs.Log.{entryOf, recordsIn, recordAt}, specs.declared.Entry.Entry}
+use Rattle.log_reader.{specs.declared.Found.Found, specs.declared.Found.the-variants.Record, specs.declared.Stood.Stood, specs.Reader.stoodAt}
 use Rattle.log_reader.proofs.Places.{at-record, found-record}
-use Rattle.replay_play.specs.declared.Played.{Played}
-use Rattle.replay_play.specs.Replayed.{Replayed, RecordReplayed}
+use Rattle.replay_play.{specs.declared.Played.Played, specs.Replayed.{Replayed, RecordReplayed}}
 use Rattle.replay_log.specs.Places.{PlaceReplayed, foundLine, foundPlayed}
 
 module _ (log : List ℕ) (place : ℕ) where

@@ -1,15 +1,10 @@
 -- The lines of two parts of a log, the first of which is whole records, are the lines of the two as one; and so is the module after them.
 -- Assumes nothing.
-use mathlib.Core.Path.{_≡_, refl, sym, _∙_, ap}
-use mathlib.Core.List.{List, _++_, append-nil, append-assoc}
+use mathlib.Core.{Path.{_≡_, refl, sym, _∙_, ap}, List.{List, _++_, append-nil, append-assoc}}
 use Prim.Native.Nat.{ℕ, zero, suc, _≤_, _<_, _+_, _*_}
-use native.Mathlib.Nat.{add-zero, add-suc, add-mul, add-assoc}
-use native.Mathlib.Omega.{arith}
-use lib.ListN.{length, take, drop, length-drop}
-use lib.Seq.{drop-at, drop-drop, take-append-le, drop-append-le}
-use Rattle.rules.specs.Record.{Module}
-use Rattle.rules.specs.Log.{recordAt}
-use Rattle.rules.specs.Replay.{recordLine, recordPlayed, recordLines, moduleAfter}
+use native.Mathlib.{Nat.{add-zero, add-suc, add-mul, add-assoc}, Omega.arith}
+use lib.{ListN.{length, take, drop, length-drop}, Seq.{drop-at, drop-drop, take-append-le, drop-append-le}}
+use Rattle.rules.{specs.Record.Module, specs.Log.recordAt, specs.Replay.{recordLine, recordPlayed, recordLines, moduleAfter}}
 
 module _ (a b : List ℕ) (k : ℕ) (whole : length a ≡ k * 544) where
   -- a record of the second part, and one of the first

@@ -3,13 +3,9 @@
 use mathlib.Core.List.{List}
 use Prim.Native.Nat.{ℕ, zero, suc}
 use lib.ListN.{length-replicate}
-use Rattle.rules.specs.Numbers.{areaSize}
-use Rattle.rules.specs.Log.{recordAt}
-use Rattle.rules.specs.Replay.{replayStart, moduleAfter}
-use Rattle.rules.proofs.page.Past.{NoR, EventPassed}
+use Rattle.rules.{specs.Numbers.areaSize, specs.Log.recordAt, specs.Replay.{replayStart, moduleAfter}, proofs.page.Past.{NoR, EventPassed}}
 use Rattle.rules.proofs.page.Possible.{possible-fresh}
-use Rattle.replay_play.specs.Verdicts.{recordVerdict}
-use Rattle.replay_play.proofs.NoR.{no-R}
+use Rattle.replay_play.{specs.Verdicts.recordVerdict, proofs.NoR.no-R}
 
 start-sound : EventPassed replayStart
 start-sound = record { whole = length-replicate {A = ℕ} areaSize 0; sound = possible-fresh }

@@ -1,14 +1,10 @@
 -- What is written part by part is the definition's text of the whole log, however the log is split into parts of whole records and a tail.
 -- Assumes nothing.
-use mathlib.Core.Path.{_≡_, refl, sym, _∙_, ap}
-use mathlib.Core.Bool.{Bool, not}
-use mathlib.Core.List.{List, [], _∷_, _++_}
+use mathlib.Core.{Path.{_≡_, refl, sym, _∙_, ap}, Bool.{Bool, not}, List.{List, [], _∷_, _++_}}
 use Prim.Native.Nat.{ℕ, _+_, _*_, _%_, _<_}
 use native.Mathlib.Omega.{arith}
 use lib.ListN.{length, length-append}
-use Rattle.rules.specs.Tests.{_=?_}
-use Rattle.rules.specs.Record.{Module}
-use Rattle.rules.specs.Log.{recordsIn, shortTail}
+use Rattle.rules.{specs.Tests._=?_, specs.Record.Module, specs.Log.{recordsIn, shortTail}}
 use Rattle.rules.specs.Replay.{replayStart, recordLines, moduleAfter, heading, tailLine, lastLine, replayText}
 use Rattle.replay_log.specs.InParts.{logOf, Whole, recordsOver, moduleOver, linesOver, textOver}
 use Rattle.replay_log.proofs.Joined.{module-joined, lines-joined}

@@ -1,15 +1,11 @@
 -- The loop over a part's records: before the first, and one turn.
 -- Assumes nothing.
-use mathlib.Core.Path.{_≡_, refl, subst}
-use mathlib.Core.List.{List}
+use mathlib.Core.{Path.{_≡_, refl, subst}, List.List}
 use Prim.Native.Nat.{ℕ, suc, _+_, _<_}
 use native.Mathlib.Omega.{arith}
-use Rattle.rules.specs.Record.{Module, moduleOf}
-use Rattle.rules.specs.Log.{recordsIn, recordAt}
-use Rattle.rules.specs.Replay.{recordLine, recordPlayed, recordLines, moduleAfter}
+use Rattle.rules.{specs.Record.{Module, moduleOf}, specs.Log.{recordsIn, recordAt}, specs.Replay.{recordLine, recordPlayed, recordLines, moduleAfter}}
 use Rattle.text.proofs.Writing.{and-then}
-use Rattle.replay_play.specs.declared.Played.{Played}
-use Rattle.replay_play.specs.Replayed.{Replayed}
+use Rattle.replay_play.{specs.declared.Played.Played, specs.Replayed.Replayed}
 use Rattle.replay_log.specs.Places.{PlaceReplayed}
 use Rattle.replay_log.proofs.Found.{place-record}
 

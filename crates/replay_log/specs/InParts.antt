@@ -1,8 +1,6 @@
 -- A log that comes in parts: what a program that goes part by part writes for it.
 -- Assumes nothing.
-use mathlib.Core.Path.{_≡_}
-use mathlib.Core.Bool.{not}
-use mathlib.Core.List.{List, [], _∷_, _++_}
+use mathlib.Core.{Path._≡_, Bool.not, List.{List, [], _∷_, _++_}}
 use Prim.Native.Nat.{ℕ, _+_, _*_}
 use lib.ListN.{length}
 use Rattle.rules.specs.Tests.{_=?_}

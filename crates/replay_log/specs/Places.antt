@@ -1,17 +1,15 @@
 -- What a place of a log and a part of it come to in a replay: the lines that were written, and the module after them.
 -- Assumes nothing.
-use mathlib.Core.Bool.{true}
-use mathlib.Core.List.{List, []}
+use mathlib.Core.{Bool.true, List.{List, []}}
 use Prim.Native.Nat.{ℕ}
 use Rattle.rules.specs.Record.{Module}
 use Rattle.rules.specs.Log.{requestIn, recordsIn, recordAt}
 use Rattle.rules.specs.Replay.{entryLine, recordLines, moduleAfter, tailLine}
-use Rattle.rules.specs.Replay as Replay
-use Rattle.log_reader.specs.declared.Found.{Found}
-use Rattle.log_reader.specs.declared.Found.the-variants.{Record, Short, End}
+use Rattle.log_reader.specs.declared.{Found.Found, Found.the-variants.{Record, Short, End}}
 use Rattle.log_reader.specs.Reader.{stoodAt}
 use Rattle.replay_play.specs.declared.Played.{Played}
 use Rattle.replay_play.specs.Replayed.{Replayed}
+use Rattle.rules.specs.Replay as Replay
 
 -- what the reader finds at a place of a log: a record is played and has its line, a short tail has its line, the end has none
 abbrev pub foundLine : (number : ℕ) → Module → Found → (bytes : List ℕ) → List ℕ

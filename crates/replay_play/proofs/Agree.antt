@@ -1,12 +1,10 @@
 -- Any two results that the promise of a playing function allows agree: one text, one area, one place and one record.
 -- Assumes nothing.
-use mathlib.Core.Path.{_≡_, sym, _∙_, ap}
-use mathlib.Core.List.{List}
+use mathlib.Core.{Path.{_≡_, sym, _∙_, ap}, List.List}
 use Prim.Native.Nat.{ℕ}
 use Rattle.rules.specs.Record.{Module}
+use Rattle.replay_play.specs.{declared.Played.Played, Replayed.Replayed}
 use Rattle.text.proofs.Agree as text
-use Rattle.replay_play.specs.declared.Played.{Played}
-use Rattle.replay_play.specs.Replayed.{Replayed}
 
 pub agree : (lines : List ℕ) (m : Module) (old : List ℕ) (at : ℕ) {new₁ new₂ area₁ area₂ : List ℕ} {p₁ p₂ : Played}
     → Replayed lines m old at new₁ area₁ p₁ → Replayed lines m old at new₂ area₂ p₂

@@ -1,18 +1,11 @@
 -- What an answer buffer holds plays no part in a call's reply and in the module after it: only its length does.
 -- Assumes nothing.
-use mathlib.Core.Path.{_≡_, refl, ap, subst}
-use mathlib.Core.List.{List, _∷_, _++_}
+use mathlib.Core.{Path.{_≡_, refl, ap, subst}, List.{List, _∷_, _++_}}
 use Prim.Native.Nat.{ℕ}
 use lib.ListN.{length}
-use Rattle.rules.specs.Tests.{_<?_}
-use Rattle.rules.specs.Numbers.{answerRoom}
-use Rattle.rules.specs.Record.{Module}
-use Rattle.rules.specs.Refusals.{_gives_, verdict, eventChecks}
-use Rattle.rules.specs.Table.{rowOf, servedCheck, lengthCheck}
-use Rattle.rules.specs.Module.{Result, Call, callIn, checks, outcome, callResult}
-use Rattle.rules.specs.declared.Refusal.the-variants.{R, Status}
-use Rattle.rules.specs.declared.Verdict.{Verdict}
-use Rattle.rules.specs.declared.Verdict.the-variants.{Accepted, Refused}
+use Rattle.rules.{specs.Tests._<?_, specs.Numbers.answerRoom, specs.Record.Module, specs.Refusals.{_gives_, verdict, eventChecks}}
+use Rattle.rules.{specs.Table.{rowOf, servedCheck, lengthCheck}, specs.Module.{Result, Call, callIn, checks, outcome, callResult}}
+use Rattle.rules.{specs.declared.Refusal.the-variants.{R, Status}, specs.declared.Verdict.Verdict, specs.declared.Verdict.the-variants.{Accepted, Refused}}
 
 -- two results that differ in the answer buffer alone
 pub record Alike (x y : Result) : Type 0 where

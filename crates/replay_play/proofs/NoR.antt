@@ -1,23 +1,11 @@
 -- A log record gives no R number: from a possible record and an area of 16,384 bytes it leads to such a module again.
 -- Assumes nothing.
-use mathlib.Core.Path.{_≡_, refl, sym, _∙_}
-use mathlib.Core.Bool.{false, true≢false}
-use mathlib.Core.List.{List}
+use mathlib.Core.{Path.{_≡_, refl, sym, _∙_}, Bool.{false, true≢false}, List.List}
 use Prim.Native.Nat.{ℕ}
-use Rattle.rules.specs.Bytes.{zeros}
-use Rattle.rules.specs.Numbers.{answerRoom}
-use Rattle.rules.specs.Record.{Module}
-use Rattle.rules.specs.Module.{Event, call, tick, power, step}
-use Rattle.rules.specs.Log.{entryOf, requestIn}
-use Rattle.rules.specs.Replay.{played, recordPlayed}
-use Rattle.rules.specs.Demand1.{bufferTooShort}
-use Rattle.rules.specs.declared.Refusal.the-variants.{R, Status}
-use Rattle.rules.specs.declared.Verdict.{Verdict}
-use Rattle.rules.specs.declared.Verdict.the-variants.{Accepted, Refused}
-use Rattle.rules.specs.declared.Entry.{Entry}
-use Rattle.rules.specs.declared.Entry.the-variants.{Call, Tick, Power, Bad}
-use Rattle.rules.proofs.page.Past.{NoR, EventPassed}
-use Rattle.rules.proofs.page.Possible.{possible-next, area-next, only-R1}
+use Rattle.rules.{specs.Bytes.zeros, specs.Numbers.answerRoom, specs.Record.Module, specs.Module.{Event, call, tick, power, step}, specs.Log.{entryOf, requestIn}}
+use Rattle.rules.{specs.Replay.{played, recordPlayed}, specs.Demand1.bufferTooShort, specs.declared.Refusal.the-variants.{R, Status}, specs.declared.Verdict.Verdict}
+use Rattle.rules.{specs.declared.Verdict.the-variants.{Accepted, Refused}, specs.declared.Entry.Entry, specs.declared.Entry.the-variants.{Call, Tick, Power, Bad}}
+use Rattle.rules.{proofs.page.Past.{NoR, EventPassed}, proofs.page.Possible.{possible-next, area-next, only-R1}}
 use Rattle.replay_play.specs.Verdicts.{entryVerdict, recordVerdict}
 
 event-sound : (m : Module) (event : Event) → bufferTooShort event ≡ false → EventPassed m

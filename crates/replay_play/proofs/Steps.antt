@@ -1,26 +1,16 @@
 -- One event of a replay: what the module promises, with the line that was written, is what the definition plays.
 -- Assumes nothing.
-use mathlib.Core.Path.{_≡_, sym, _∙_, ap, subst}
-use mathlib.Core.List.{List}
+use mathlib.Core.{Path.{_≡_, sym, _∙_, ap, subst}, List.List}
 use Prim.Native.Nat.{ℕ, _+_, _-_, _≤_}
 use native.Mathlib.Omega.{arith}
 use lib.ListN.{length, take, drop}
-use Rattle.rules.specs.Bytes.{zeros}
-use Rattle.rules.specs.Numbers.{answerRoom}
-use Rattle.rules.specs.Record.{Module, moduleOf}
-use Rattle.rules.specs.Module.{Result, callResult}
-use Rattle.rules.specs.Log.{entryOf, requestIn}
-use Rattle.rules.specs.Replay.{callLine, replayCall, entryLine, played, recordLine, recordPlayed}
-use Rattle.rules.specs.declared.Entry.{Entry}
-use Rattle.rules.specs.declared.Entry.the-variants.{Call}
+use Rattle.rules.{specs.Bytes.zeros, specs.Numbers.answerRoom, specs.Record.{Module, moduleOf}, specs.Module.{Result, callResult}, specs.Log.{entryOf, requestIn}}
+use Rattle.rules.{specs.Replay.{callLine, replayCall, entryLine, played, recordLine, recordPlayed}, specs.declared.Entry.Entry, specs.declared.Entry.the-variants.Call}
 use Rattle.rules.specs.declared.Device.{Device}
 use Rattle.log_record.proofs.IsCall.{is-call, request-part}
-use Rattle.text.specs.Wrote.{Wrote}
-use Rattle.text.proofs.Writing.{rewrote}
-use Rattle.module.specs.Promise.{Promised}
-use Rattle.module.specs.declared.Outcome.{Outcome}
-use Rattle.replay_play.specs.declared.Played.{Played}
-use Rattle.replay_play.specs.Replayed.{Replayed, CallReplayed}
+use Rattle.text.{specs.Wrote.Wrote, proofs.Writing.rewrote}
+use Rattle.module.{specs.Promise.Promised, specs.declared.Outcome.Outcome}
+use Rattle.replay_play.specs.{declared.Played.Played, Replayed.{Replayed, CallReplayed}}
 use Rattle.replay_play.proofs.AnyBuffer.{any-buffer}
 
 abbrev playedAt : ℕ → Device → Played

@@ -1,7 +1,6 @@
 -- What one record of a replay comes to: the text that was written, and the module after it.
 -- Assumes nothing.
-use mathlib.Core.Path.{_≡_}
-use mathlib.Core.List.{List}
+use mathlib.Core.{Path._≡_, List.List}
 use Prim.Native.Nat.{ℕ}
 use Rattle.rules.specs.Record.{Module, moduleOf}
 use Rattle.rules.specs.Module.{Result}

@@ -6,10 +6,7 @@ use Rattle.rules.specs.Record.{Module}
 use Rattle.rules.specs.Module.{tickResult, powerResult}
 use Rattle.rules.specs.Log.{entryOf, requestIn}
 use Rattle.rules.specs.Replay.{replayCall}
-use Rattle.rules.specs.declared.Verdict.{Verdict}
-use Rattle.rules.specs.declared.Verdict.the-variants.{Accepted}
-use Rattle.rules.specs.declared.Entry.{Entry}
-use Rattle.rules.specs.declared.Entry.the-variants.{Call, Tick, Power, Bad}
+use Rattle.rules.specs.declared.{Verdict.Verdict, Verdict.the-variants.Accepted, Entry.Entry, Entry.the-variants.{Call, Tick, Power, Bad}}
 
 -- a bad record plays nothing, so that nothing is refused
 abbrev pub entryVerdict : Module → Entry → (request : List ℕ) → Verdict

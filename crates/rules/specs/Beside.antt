@@ -1,8 +1,7 @@
 -- Beside the demands: what the page says of one event and neither demand 1 nor demand 3 does, as statements.
 -- Assumes nothing.
 use Prim.Native.Nat.{ℕ}
-use mathlib.Core.Path.{_≡_}
-use mathlib.Core.Bool.{true, _||_}
+use mathlib.Core.{Path._≡_, Bool.{true, _||_}}
 use Rattle.rules.specs.Tests.{_=?_}
 use Rattle.rules.specs.Numbers.{attemptLimit}
 use Rattle.rules.specs.Record.{Module}
@@ -11,10 +10,7 @@ use Rattle.rules.specs.Security.{SecurityCall, GetSecurityState, SetPass
 use Rattle.rules.specs.Module.{Event, power, step}
 use Rattle.rules.specs.Transfers.{machine, Kind, Started, Sent, Finished, Ticked, Powered, Other, eventKind}
 use Rattle.rules.specs.Demand3.{stagedWith, Sound}
-use Rattle.rules.specs.declared.Refusal.the-variants.{Status}
-use Rattle.rules.specs.declared.Verdict.{Verdict}
-use Rattle.rules.specs.declared.Verdict.the-variants.{Accepted, Refused}
-use Rattle.rules.specs.declared.Security.{Security}
+use Rattle.rules.specs.declared.{Refusal.the-variants.Status, Verdict.Verdict, Verdict.the-variants.{Accepted, Refused}, Security.Security}
 
 -- no accepted Send
 abbrev pub NoSend : Kind → Type 0

@@ -2,8 +2,7 @@
 -- A run of bytes is a list of numbers; place 0 is its first byte. In the code each is below 256; what is said here of lists holds for any numbers.
 -- Assumes nothing.
 use Prim.Native.Nat.{ℕ, zero, suc, _+_, _*_, _/_, _%_, _^_}
-use mathlib.Core.List.{List, [], _∷_, _++_}
-use mathlib.Core.Bool.{Bool, true, false, _&&_}
+use mathlib.Core.{List.{List, [], _∷_, _++_}, Bool.{Bool, true, false, _&&_}}
 use lib.ListN.{length, take, drop, replicate}
 use Rattle.rules.specs.Tests.{_=?_, if_then_else_}
 

@@ -1,8 +1,7 @@
 -- Document 01, "Cases for the bench": those marked P, as rows of one list. That every row holds is the one claim of proofs/Claim.antt.
 -- Assumes nothing.
 use Prim.Native.Nat.{ℕ, zero, suc, _+_}
-use mathlib.Core.Bool.{Bool, true, _&&_}
-use mathlib.Core.List.{List, [], _∷_, _++_}
+use mathlib.Core.{Bool.{Bool, true, _&&_}, List.{List, [], _∷_, _++_}}
 use lib.ListN.{length, drop, replicate}
 use Rattle.rules.specs.Tests.{if_then_else_, _=?_}
 use Rattle.rules.specs.Bytes.{le, zeros, same?}

@@ -4,10 +4,7 @@
 -- by definition nothing else decides (`judged`). What is proved here: the page's numbers are given and no other; what a refusal leaves and writes; what an
 -- accepted call writes; and that every event keeps a possible record possible.
 -- Assumes nothing.
-use mathlib.Core.Path.{_≡_}
-use mathlib.Core.Bool.{Bool, true, false, _||_}
-use mathlib.Core.Logic.{_⊎_}
-use mathlib.Core.List.{List, [], _∷_, _++_}
+use mathlib.Core.{Path._≡_, Bool.{Bool, true, false, _||_}, Logic._⊎_, List.{List, [], _∷_, _++_}}
 use Prim.Native.Nat.{ℕ, _-_}
 use lib.ListN.{length, take}
 use Rattle.rules.specs.Tests.{if_then_else_, _<?_, _=?_}
@@ -17,11 +14,7 @@ use Rattle.rules.specs.Record.{fresh, possible, Module}
 use Rattle.rules.specs.Refusals.{verdict, statusBytes, answerAfter, oneAttemptMore}
 use Rattle.rules.specs.Table.{rowOf}
 use Rattle.rules.specs.Module.{Result, callChecks, callResult, Event, call, tick, power, step}
-use Rattle.rules.specs.declared.Function.the-variants.{Mask}
-use Rattle.rules.specs.declared.Row.{Row}
-use Rattle.rules.specs.declared.Refusal.{Refusal}
-use Rattle.rules.specs.declared.Refusal.the-variants.{R, Status}
-use Rattle.rules.specs.declared.Verdict.the-variants.{Accepted, Refused}
+use Rattle.rules.specs.declared.{Function.the-variants.Mask, Row.Row, Refusal.Refusal, Refusal.the-variants.{R, Status}, Verdict.the-variants.{Accepted, Refused}}
 
 -- the refusal numbers of document 01, in its table's order: these are given, each by some call, and no other is. When each is given, the checks say.
 abbrev pub refusalNumbers : List Refusal

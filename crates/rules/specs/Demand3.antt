@@ -1,10 +1,7 @@
 -- Demand 3, sentence by sentence, over any history of raw calls, ticks and power cycles. docs/DEMAND-3.md walks through it.
 -- Assumes nothing.
 use Prim.Native.Nat.{ℕ, _≤_, _<_}
-use mathlib.Core.Path.{_≡_}
-use mathlib.Core.Logic.{_⊎_, _↔_}
-use mathlib.Core.Bool.{Bool, true, false, _&&_}
-use mathlib.Core.List.{List, _∷_}
+use mathlib.Core.{Path._≡_, Logic.{_⊎_, _↔_}, Bool.{Bool, true, false, _&&_}, List.{List, _∷_}}
 use lib.ListN.{length}
 use Rattle.rules.specs.Tests.{_=?_}
 use Rattle.rules.specs.Numbers.{areaSize, lastContext, verification}
@@ -17,10 +14,7 @@ use Rattle.rules.specs.Transfers.{machine, Exchange, History, Started, F
 use Rattle.rules.specs.Hosts.{Honest}
 use Rattle.rules.specs.Sends.{ownSends, pieces, SentBy, FinishedIn, ticksIn, powerCycles}
 use Rattle.rules.specs.Moves.{moved, ByMoves, rearranged, Unbroken}
-use Rattle.rules.specs.declared.Refusal.the-variants.{R, Status}
-use Rattle.rules.specs.declared.Verdict.{Verdict}
-use Rattle.rules.specs.declared.Verdict.the-variants.{Accepted, Refused}
-use Rattle.rules.specs.declared.Image.the-variants.{Good}
+use Rattle.rules.specs.declared.{Refusal.the-variants.{R, Status}, Verdict.Verdict, Verdict.the-variants.{Accepted, Refused}, Image.the-variants.Good}
 use Rattle.rules.specs.declared.Phase.the-variants.{Staged}
 
 -- "Begin with a fresh module"; its area is any of the right size.

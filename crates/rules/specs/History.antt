@@ -2,9 +2,7 @@
 -- module's own `History` is in Transfers.antt.
 -- Assumes nothing.
 use Prim.Native.Nat.{ℕ, _+_}
-use mathlib.Core.Path.{_≡_}
-use mathlib.Core.Bool.{Bool, true, false, not, _||_}
-use mathlib.Core.List.{List, [], _∷_, _++_}
+use mathlib.Core.{Path._≡_, Bool.{Bool, true, false, not, _||_}, List.{List, [], _∷_, _++_}}
 use Rattle.rules.specs.Tests.{if_then_else_}
 
 module _ {X : Type 0} where

@@ -1,9 +1,7 @@
 -- Demand 3's words: honest hosts.
 -- Assumes nothing.
 use Prim.Native.Nat.{ℕ, _≤_}
-use mathlib.Core.Path.{_≡_}
-use mathlib.Core.Logic.{_⊎_}
-use mathlib.Core.List.{List, [], _∷_}
+use mathlib.Core.{Path._≡_, Logic._⊎_, List.{List, [], _∷_}}
 use lib.ListN.{length}
 use Rattle.rules.specs.Transfer.{GetFwInfo, Start, Send, Finish, Query}
 use Rattle.rules.specs.Module.{Call, OnMask, OnThresholds, OnTransfer, OnSecurity, OnNothing, Event, call, tick, power, callIn}

@@ -1,13 +1,11 @@
 -- Document 01, "Good image (house form: records of 128 bytes, no header)".
 -- Assumes nothing.
 use Prim.Native.Nat.{ℕ, zero, suc, _+_, _*_, _/_, _%_, _^_}
-use mathlib.Core.Bool.{Bool, true, not, _&&_}
-use mathlib.Core.List.{List}
+use mathlib.Core.{Bool.{Bool, true, not, _&&_}, List.List}
 use lib.ListN.{length, take, drop}
 use Rattle.rules.specs.Tests.{if_then_else_, _≤?_, _=?_}
 use Rattle.rules.specs.Bytes.{numberAt}
-use Rattle.rules.specs.declared.Image.{Image}
-use Rattle.rules.specs.declared.Image.the-variants.{Good, Bad}
+use Rattle.rules.specs.declared.{Image.Image, Image.the-variants.{Good, Bad}}
 
 -- "records of 128 bytes"
 abbrev pub imageRecordSize : ℕ

@@ -1,13 +1,11 @@
 -- Document 01, "The replay program": the records of a log.
 -- Assumes nothing.
 use Prim.Native.Nat.{ℕ, _+_, _*_, _/_, _%_}
-use mathlib.Core.Bool.{Bool, not, _&&_}
-use mathlib.Core.List.{List}
+use mathlib.Core.{Bool.{Bool, not, _&&_}, List.List}
 use lib.ListN.{length, take, drop}
 use Rattle.rules.specs.Tests.{if_then_else_, _≤?_, _=?_}
 use Rattle.rules.specs.Bytes.{numberAt, zeros?}
-use Rattle.rules.specs.declared.Entry.{Entry}
-use Rattle.rules.specs.declared.Entry.the-variants.{Call, Tick, Power, Bad}
+use Rattle.rules.specs.declared.{Entry.Entry, Entry.the-variants.{Call, Tick, Power, Bad}}
 
 -- "544-byte records"
 abbrev pub recordSize : ℕ

@@ -12,11 +12,7 @@ use Rattle.rules.specs.Table.{rowOf, servedCheck, lengthCheck, mask}
 use Rattle.rules.specs.Thresholds.{ThresholdCall, GetThreshold, setThresholdOf, thresholdChecks, thresholdAnswer, thresholdChange}
 use Rattle.rules.specs.Transfer.{TransferCall, GetFwInfo, Start, sendOf, finishOf, queryOf, transferChecks, transferAnswer, transferChange, transferArea, tickChange, transferPower}
 use Rattle.rules.specs.Security.{SecurityCall, GetSecurityState, setPassphraseOf, Disable, Unlock, Freeze, securityChecks, securityAnswer, securityChange, securityPower}
-use Rattle.rules.specs.declared.Refusal.the-variants.{R, Status}
-use Rattle.rules.specs.declared.Verdict.{Verdict}
-use Rattle.rules.specs.declared.Verdict.the-variants.{Accepted, Refused}
-use Rattle.rules.specs.declared.Reply.{Reply}
-use Rattle.rules.specs.declared.Function.{Function}
+use Rattle.rules.specs.declared.{Refusal.the-variants.{R, Status}, Verdict.Verdict, Verdict.the-variants.{Accepted, Refused}, Reply.Reply, Function.Function}
 use Rattle.rules.specs.declared.Function.the-variants as Function′
 
 -- a call, decoded: function 0 with its revision, or a call on one part of the record; an index that the table lacks, to which status 1 comes first

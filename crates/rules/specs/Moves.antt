@@ -1,9 +1,7 @@
 -- Demand 3's move: "All but its own Sends between a transfer's Start and its accepted Finish can move, in its own order, before that Start".
 -- Assumes nothing.
 use Prim.Native.Nat.{ℕ}
-use mathlib.Core.Path.{_≡_}
-use mathlib.Core.Bool.{Bool, false}
-use mathlib.Core.List.{[], _∷_}
+use mathlib.Core.{Path._≡_, Bool.{Bool, false}, List.{[], _∷_}}
 use Rattle.rules.specs.Tests.{if_then_else_, _=?_}
 use Rattle.rules.specs.History.{some, upTo, onFrom, _and-then_}
 use Rattle.rules.specs.Transfers.{Exchange, History, Kind, Started, Sent, Finished, Ticked, Powered, Other, kindOf}

@@ -2,17 +2,12 @@
 -- number; the widths declared there keep the code's in range: contexts at most 4,294,967,295, a passphrase of 32 bytes.
 -- Assumes nothing.
 use Prim.Native.Nat.{ℕ}
-use mathlib.Core.Bool.{Bool, false, not, _&&_}
-use mathlib.Core.List.{List}
+use mathlib.Core.{Bool.{Bool, false, not, _&&_}, List.List}
 use Rattle.rules.specs.Tests.{_≤?_, _<?_, _=?_, _implies_, _unless_}
 use Rattle.rules.specs.Bytes.{zeros, zeros?}
 use Rattle.rules.specs.Numbers.{areaSize, verification, attemptLimit}
-use Rattle.rules.specs.declared.Phase.{Phase}
-use Rattle.rules.specs.declared.Phase.the-variants.{Idle, Receiving, Verifying, Staged, Failed}
-use Rattle.rules.specs.declared.Transfer.{Transfer}
-use Rattle.rules.specs.declared.Thresholds.{Thresholds}
-use Rattle.rules.specs.declared.Security.{Security}
-use Rattle.rules.specs.declared.Device.{Device}
+use Rattle.rules.specs.declared.{Phase.Phase, Phase.the-variants.{Idle, Receiving, Verifying, Staged, Failed}, Transfer.Transfer, Thresholds.Thresholds}
+use Rattle.rules.specs.declared.{Security.Security, Device.Device}
 
 -- "Phase (Idle, Receiving, Verifying, Staged, Failed)", numbered in that order, so that two phases can be compared
 abbrev pub phaseNumber : Phase → ℕ

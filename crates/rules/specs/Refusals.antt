@@ -1,19 +1,14 @@
 -- Document 01, "Refusal numbers, and what each leaves". An event's checks stand in the page's order, and the first whose test is true refuses.
 -- Assumes nothing.
 use Prim.Native.Nat.{ℕ, _+_, _-_}
-use mathlib.Core.Bool.{Bool, true, false, not}
-use mathlib.Core.List.{List, [], _∷_, _++_}
+use mathlib.Core.{Bool.{Bool, true, false, not}, List.{List, [], _∷_, _++_}}
 use lib.ListN.{length}
 use Rattle.rules.specs.Tests.{if_then_else_, _=?_, _<?_}
 use Rattle.rules.specs.Bytes.{le, zeros, splice}
 use Rattle.rules.specs.Numbers.{areaSize, answerRoom}
 use Rattle.rules.specs.With.{_with-attempts_, _with-security_}
 use Rattle.rules.specs.Record.{possible, Module, _with-device_}
-use Rattle.rules.specs.declared.Refusal.{Refusal}
-use Rattle.rules.specs.declared.Refusal.the-variants.{R}
-use Rattle.rules.specs.declared.Verdict.{Verdict}
-use Rattle.rules.specs.declared.Verdict.the-variants.{Accepted, Refused}
-use Rattle.rules.specs.declared.Device.{Device}
+use Rattle.rules.specs.declared.{Refusal.Refusal, Refusal.the-variants.R, Verdict.Verdict, Verdict.the-variants.{Accepted, Refused}, Device.Device}
 
 -- a check: where the test is true, this refusal is given
 infix 20 _gives_

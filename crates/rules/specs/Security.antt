@@ -1,16 +1,14 @@
 -- Document 01, "Locking and passphrases", and what a power cycle does to them.
 -- Assumes nothing.
 use Prim.Native.Nat.{ℕ, _+_}
-use mathlib.Core.Bool.{Bool, true, false, not, _&&_, _||_}
-use mathlib.Core.List.{List, [], _∷_, _++_}
+use mathlib.Core.{Bool.{Bool, true, false, not, _&&_, _||_}, List.{List, [], _∷_, _++_}}
 use lib.ListN.{take, drop}
 use Rattle.rules.specs.Tests.{_=?_}
 use Rattle.rules.specs.Bytes.{le, zeros, same?, bit}
 use Rattle.rules.specs.Numbers.{attemptLimit}
 use Rattle.rules.specs.With.{_with-enabled_, _with-locked_, _with-frozen_, _with-attempts_, _with-passphrase_}
 use Rattle.rules.specs.Refusals.{Check, _gives_}
-use Rattle.rules.specs.declared.Refusal.the-variants.{Status}
-use Rattle.rules.specs.declared.Security.{Security}
+use Rattle.rules.specs.declared.{Refusal.the-variants.Status, Security.Security}
 
 pub data SecurityCall : Type 0 where
   GetSecurityState : SecurityCall

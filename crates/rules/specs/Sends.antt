@@ -1,9 +1,7 @@
 -- Demand 3's words: a transfer's own Sends and their pieces, a transfer with an accepted Finish, and how many ticks and power cycles a history has.
 -- Assumes nothing.
 use Prim.Native.Nat.{ℕ, _+_}
-use mathlib.Core.Path.{_≡_}
-use mathlib.Core.Bool.{Bool, false}
-use mathlib.Core.List.{List, [], _∷_, _++_}
+use mathlib.Core.{Path._≡_, Bool.{Bool, false}, List.{List, [], _∷_, _++_}}
 use Rattle.rules.specs.Tests.{_=?_}
 use Rattle.rules.specs.History.{only, except, total, _and-then_}
 use Rattle.rules.specs.Transfers.{Exchange, History, Kind, Started, Sent, Finished, Ticked, Powered, Other, kindOf}

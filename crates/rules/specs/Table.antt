@@ -1,15 +1,12 @@
 -- Document 01, "Which function index at which revision": the one table of functions, and function 0.
 -- Assumes nothing.
 use Prim.Native.Nat.{ℕ, _+_}
-use mathlib.Core.Bool.{Bool, true, false, not, _&&_}
-use mathlib.Core.List.{List, [], _∷_}
+use mathlib.Core.{Bool.{Bool, true, false, not, _&&_}, List.{List, [], _∷_}}
 use lib.ListN.{length}
 use Rattle.rules.specs.Tests.{if_then_else_, _≤?_, _=?_}
 use Rattle.rules.specs.Bytes.{bit}
 use Rattle.rules.specs.Refusals.{Check, _gives_}
-use Rattle.rules.specs.declared.Refusal.the-variants.{Status}
-use Rattle.rules.specs.declared.Row.{Row}
-use Rattle.rules.specs.declared.Function.{Function}
+use Rattle.rules.specs.declared.{Refusal.the-variants.Status, Row.Row, Function.Function}
 use Rattle.rules.specs.declared.Function.the-variants.{Mask, GetThreshold, GetFwInfo, Start, Send, Finish, Query, SetThreshold, GetSecurityState, SetPassphrase, Disable, Unlock, Freeze, Unserved}
 
 -- a row: the function, the first revision that serves it, its request bytes, its answer bytes

@@ -2,9 +2,9 @@
 -- Assumes nothing.
 use Prim.Native.Nat.{ℕ, zero, suc, _+_, _/_, _%_}
 use Prim.Native.Char.{code}
-use Prim.Native.String.{String, [] as end, _∷_ as _then_}
 use mathlib.Core.List.{List, [], _∷_, _++_}
 use Rattle.rules.specs.Tests.{_<?_, if_then_else_}
+use Prim.Native.String.{String, [] as end, _∷_ as _then_}
 
 -- The bytes of a quoted text of ASCII characters. A text is `end`, empty, or `c then text`, a character before the rest; `code c` is its number.
 abbrev pub ascii : String → List ℕ

@@ -5,8 +5,7 @@ use mathlib.Core.List.{List, [], _∷_, _++_}
 use Rattle.rules.specs.Tests.{_<?_}
 use Rattle.rules.specs.Bytes.{le, numberAt, zeros}
 use Rattle.rules.specs.Refusals.{Check, _gives_}
-use Rattle.rules.specs.declared.Refusal.the-variants.{Status}
-use Rattle.rules.specs.declared.Thresholds.{Thresholds}
+use Rattle.rules.specs.declared.{Refusal.the-variants.Status, Thresholds.Thresholds}
 
 pub data ThresholdCall : Type 0 where
   GetThreshold : ThresholdCall

@@ -1,8 +1,7 @@
 -- Document 01, "A firmware transfer": Get FW Info, Start, Send, Finish, Query, the tick and the power cycle.
 -- Assumes nothing.
 use Prim.Native.Nat.{ℕ, _+_, _-_, _*_}
-use mathlib.Core.Bool.{not, _&&_, _||_}
-use mathlib.Core.List.{List, [], _∷_, _++_}
+use mathlib.Core.{Bool.{not, _&&_, _||_}, List.{List, [], _∷_, _++_}}
 use lib.ListN.{length, take, drop}
 use Rattle.rules.specs.Tests.{if_then_else_, _<?_, _=?_}
 use Rattle.rules.specs.Bytes.{le, numberAt, zeros, splice}
@@ -11,11 +10,8 @@ use Rattle.rules.specs.With.{_with-phase_, _with-contexts_, _with-receiv
 use Rattle.rules.specs.Record.{_is_, given, current, live}
 use Rattle.rules.specs.Refusals.{Check, _gives_}
 use Rattle.rules.specs.Image.{imageOf}
-use Rattle.rules.specs.declared.Refusal.the-variants.{Status}
-use Rattle.rules.specs.declared.Image.{Image}
-use Rattle.rules.specs.declared.Image.the-variants.{Good, Bad}
-use Rattle.rules.specs.declared.Phase.the-variants.{Idle, Receiving, Verifying, Staged, Failed}
-use Rattle.rules.specs.declared.Transfer.{Transfer}
+use Rattle.rules.specs.declared.{Refusal.the-variants.Status, Image.Image, Image.the-variants.{Good, Bad}}
+use Rattle.rules.specs.declared.{Phase.the-variants.{Idle, Receiving, Verifying, Staged, Failed}, Transfer.Transfer}
 
 pub data TransferCall : Type 0 where
   GetFwInfo : TransferCall

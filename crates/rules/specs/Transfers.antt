@@ -1,8 +1,7 @@
 -- Demand 3's words: the module's histories, what an exchange is to the transfers, which transfer is open, in what order they stand, and from which host.
 -- Assumes nothing.
 use Prim.Native.Nat.{ℕ}
-use mathlib.Core.Path.{_≡_}
-use mathlib.Core.List.{List, [], _++_}
+use mathlib.Core.{Path._≡_, List.{List, [], _++_}}
 use lib.ListN.{length}
 use Rattle.rules.specs.Tests.{if_then_else_}
 use Rattle.rules.specs.Bytes.{numberAt}

@@ -2,13 +2,8 @@
 -- ticks left at 0 and every other field as it was.
 -- Assumes nothing.
 use Prim.Native.Nat.{ℕ}
-use mathlib.Core.List.{List}
-use mathlib.Core.Bool.{Bool}
-use Rattle.rules.specs.declared.Phase.{Phase}
-use Rattle.rules.specs.declared.Transfer.{Transfer}
-use Rattle.rules.specs.declared.Thresholds.{Thresholds}
-use Rattle.rules.specs.declared.Security.{Security}
-use Rattle.rules.specs.declared.Device.{Device}
+use mathlib.Core.{List.List, Bool.Bool}
+use Rattle.rules.specs.declared.{Phase.Phase, Transfer.Transfer, Thresholds.Thresholds, Security.Security, Device.Device}
 
 infixl 10 _with-phase_ _with-contexts_ _with-received_ _with-ticks_ _with-running_ _with-staged_
 infixl 10 _with-enabled_ _with-locked_ _with-frozen_ _with-attempts_ _with-passphrase_

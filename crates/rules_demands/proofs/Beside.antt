@@ -1,27 +1,15 @@
 -- What is written out beside the demands follows from rules' theorems.
 -- Assumes nothing.
 use Prim.Native.Nat.{ℕ}
-use mathlib.Core.Path.{_≡_, refl, sym, _∙_, ap, subst}
-use mathlib.Core.Logic.{_⊎_, inl, inr}
-use mathlib.Core.Bool.{Bool, true, false, _&&_, _||_}
-use mathlib.Core.List.{List}
+use mathlib.Core.{Path.{_≡_, refl, sym, _∙_, ap, subst}, Logic.{_⊎_, inl, inr}, Bool.{Bool, true, false, _&&_, _||_}, List.List}
 use lib.ListN.{drop}
 use borrow.Author.Tests.{eqb-true, eq-eqb}
-use Rattle.rules.specs.Tests.{if_then_else_, _=?_}
-use Rattle.rules.specs.Bytes.{numberAt}
-use Rattle.rules.specs.Record.{Module, _is_}
-use Rattle.rules.specs.Security.{GetSecurityState, SetPassphrase, Disable, Unlock, Freeze}
-use Rattle.rules.specs.Module.{call, tick, power, step}
-use Rattle.rules.specs.Transfers.{machine, Sent, Finished, Other}
-use Rattle.rules.specs.Beside.{NoSend, AreaStays, FrozenFirst, TakenOver}
-use Rattle.rules.specs.declared.Phase.{Phase}
-use Rattle.rules.specs.declared.Phase.the-variants.{Staged}
-use Rattle.rules.specs.declared.Security.{Security}
-use Rattle.rules.specs.declared.Verdict.{Verdict}
-use Rattle.rules.specs.declared.Verdict.the-variants.{Accepted, Refused}
-use Rattle.rules.proofs.page.Choice.{if-both, or-true}
-use Rattle.rules_demands.specs.Words.{answeredAs}
-use Rattle.rules_demands.specs.Beside.{AreaWrittenOut, FrozenWrittenOut, BesideWrittenOut}
+use Rattle.rules.{specs.Tests.{if_then_else_, _=?_}, specs.Bytes.numberAt, specs.Record.{Module, _is_}}
+use Rattle.rules.{specs.Security.{GetSecurityState, SetPassphrase, Disable, Unlock, Freeze}, specs.Module.{call, tick, power, step}}
+use Rattle.rules.{specs.Transfers.{machine, Sent, Finished, Other}, specs.Beside.{NoSend, AreaStays, FrozenFirst, TakenOver}, specs.declared.Phase.Phase}
+use Rattle.rules.{specs.declared.Phase.the-variants.Staged, specs.declared.Security.Security, specs.declared.Verdict.Verdict}
+use Rattle.rules.{specs.declared.Verdict.the-variants.{Accepted, Refused}, proofs.page.Choice.{if-both, or-true}}
+use Rattle.rules_demands.specs.{Words.answeredAs, Beside.{AreaWrittenOut, FrozenWrittenOut, BesideWrittenOut}}
 use Rattle.rules_demands.proofs.Words.{kind-event}
 
 -- no Send: another function, or a refused call

@@ -2,23 +2,14 @@
 -- Assumes nothing.
 use Prim.Native.Nat.{ℕ, _+_, _-_}
 use native.Mathlib.Omega.{arith}
-use mathlib.Core.Path.{_≡_, refl, _∙_, ap}
-use mathlib.Core.Bool.{Bool, true, false, false≢true}
-use mathlib.Core.List.{List, _++_}
+use mathlib.Core.{Path.{_≡_, refl, _∙_, ap}, Bool.{Bool, true, false, false≢true}, List.{List, _++_}}
 use lib.ListN.{length, drop}
 use borrow.Author.Tests.{ltb-true}
-use Rattle.rules.specs.Tests.{if_then_else_, _=?_}
-use Rattle.rules.specs.Bytes.{le, zeros}
-use Rattle.rules.specs.Record.{Module, moduleOf}
-use Rattle.rules.specs.Refusals.{answerAfter, oneAttemptMore}
-use Rattle.rules.specs.Table.{table, rowOf}
-use Rattle.rules.specs.Module.{Event, call, tick, power, callResult}
-use Rattle.rules.specs.Demand1.{OfCall, bufferTooShort, Demand1}
-use Rattle.rules.specs.declared.Row.{Row}
-use Rattle.rules.specs.declared.Function.{Function}
+use Rattle.rules.{specs.Tests.{if_then_else_, _=?_}, specs.Bytes.{le, zeros}, specs.Record.{Module, moduleOf}, specs.Refusals.{answerAfter, oneAttemptMore}}
+use Rattle.rules.{specs.Table.{table, rowOf}, specs.Module.{Event, call, tick, power, callResult}, specs.Demand1.{OfCall, bufferTooShort, Demand1}}
+use Rattle.rules.{specs.declared.Row.Row, specs.declared.Function.Function}
 use Rattle.rules.specs.declared.Function.the-variants.{Mask, GetThreshold, GetFwInfo, Start, Send, Finish, Query, SetThreshold, GetSecurityState, SetPassphrase, Disable, Unlock, Freeze, Unserved}
-use Rattle.rules.specs.declared.Refusal.the-variants.{R, Status}
-use Rattle.rules.specs.declared.Verdict.the-variants.{Accepted, Refused}
+use Rattle.rules.{specs.declared.Refusal.the-variants.{R, Status}, specs.declared.Verdict.the-variants.{Accepted, Refused}}
 use Rattle.rules_demands.specs.Calls.{overFront, bytesTold, Served, CallWrittenOut, LendsTooLittle, Demand1WrittenOut}
 use Rattle.rules_demands.proofs.Places.{looked-at}
 

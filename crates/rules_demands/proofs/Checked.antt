@@ -1,23 +1,14 @@
 -- The test for honest hosts tells the truth: a history passes it exactly when its hosts are honest.
 -- Assumes nothing.
 use Prim.Native.Nat.{ℕ, _≤_}
-use mathlib.Core.Path.{_≡_, refl, sym, _∙_, ap, subst}
-use mathlib.Core.Logic.{_↔_, inl, inr}
-use mathlib.Core.Bool.{Bool, true, false, _&&_, _||_, false≢true}
-use mathlib.Core.List.{List, [], _∷_}
+use mathlib.Core.{Path.{_≡_, refl, sym, _∙_, ap, subst}, Logic.{_↔_, inl, inr}, Bool.{Bool, true, false, _&&_, _||_, false≢true}, List.{List, [], _∷_}}
 use lib.ListN.{length}
 use borrow.Author.Tests.{eqb-true, eq-eqb, leb-true, le-leb}
-use Rattle.rules.specs.Tests.{_=?_, _≤?_, _implies_}
-use Rattle.rules.specs.Bytes.{numberAt}
-use Rattle.rules.specs.Table.{table, rowOf}
-use Rattle.rules.specs.Module.{Event, call, tick, power, callOf, callIn}
-use Rattle.rules.specs.Transfers.{History, Kind, Started, Sent, Finished, Ticked, Powered, Other}
-use Rattle.rules.specs.Hosts.{Carries, Uses, AnsweredTo, HonestAfter, Honest}
-use Rattle.rules.specs.declared.Row.{Row}
-use Rattle.rules.proofs.page.Choice.{and-true, or-true}
+use Rattle.rules.{specs.Tests.{_=?_, _≤?_, _implies_}, specs.Bytes.numberAt, specs.Table.{table, rowOf}, specs.Module.{Event, call, tick, power, callOf, callIn}}
+use Rattle.rules.{specs.Transfers.{History, Kind, Started, Sent, Finished, Ticked, Powered, Other}, specs.Hosts.{Carries, Uses, AnsweredTo, HonestAfter, Honest}}
+use Rattle.rules.{specs.declared.Row.Row, proofs.page.Choice.{and-true, or-true}}
 use Rattle.rules_demands.specs.Words.{what, answeredIt, answeredTo, usesOwn, honestAfter, honest?}
-use Rattle.rules_demands.proofs.Places.{looked-at}
-use Rattle.rules_demands.proofs.Words.{kind-is}
+use Rattle.rules_demands.proofs.{Places.looked-at, Words.kind-is}
 
 -- tests that are joined
 both : (a b : Bool) → a ≡ true → b ≡ true → (a && b) ≡ true

@@ -1,16 +1,10 @@
 -- The case list and the list of texts have what they must, by computation over the definitions.
 -- Assumes nothing.
-use mathlib.Core.Path.{_≡_, refl}
-use mathlib.Core.List.{[], _∷_, map}
+use mathlib.Core.{Path.{_≡_, refl}, List.{[], _∷_, map}}
 use lib.ListN.{replicate}
-use Rattle.rules.specs.Bytes.{zeros?, same?}
-use Rattle.rules.specs.Record.{possible, possibleTransfer, possibleSecurity, possibleThresholds}
-use Rattle.rules.specs.Refusals.{verdict}
-use Rattle.rules.specs.Table.{rowOf, fits?}
-use Rattle.rules.specs.Image.{sumOfWords, goodRecord, goodRecords, goodImage, imageOf}
-use Rattle.rules.specs.Module.{callResult, tickResult, powerResult}
-use Rattle.rules.specs.Cases.{cases, failing}
-use Rattle.rules.proofs.page.Claim.{claim, texts-claim}
+use Rattle.rules.{specs.Bytes.{zeros?, same?}, specs.Record.{possible, possibleTransfer, possibleSecurity, possibleThresholds}, specs.Refusals.verdict}
+use Rattle.rules.{specs.Table.{rowOf, fits?}, specs.Image.{sumOfWords, goodRecord, goodRecords, goodImage, imageOf}, specs.Module.{callResult, tickResult, powerResult}}
+use Rattle.rules.{specs.Cases.{cases, failing}, proofs.page.Claim.{claim, texts-claim}}
 use Rattle.rules_demands.specs.Examples.{wrongCases, nearMisses, notTheEndOf, looking, CasesHeld, TextsHeld}
 
 wrong-ones-fail : failing 0 wrongCases ≡ 0 ∷ 1 ∷ 2 ∷ 3 ∷ 4 ∷ 5 ∷ []

@@ -1,31 +1,18 @@
 -- Demand 3 written out follows from demand 3, and what holds from anywhere and with any hosts from the theorems that say it.
 -- Assumes nothing.
 use Prim.Native.Nat.{ℕ, _≤_}
-use mathlib.Core.Path.{_≡_, refl, sym, _∙_, ap, subst}
-use mathlib.Core.Logic.{_⊎_, _↔_, inl, inr}
-use mathlib.Core.Bool.{Bool, true, false, false≢true, _&&_}
-use mathlib.Core.List.{List, [], _∷_, _++_}
+use mathlib.Core.{Path.{_≡_, refl, sym, _∙_, ap, subst}, Logic.{_⊎_, _↔_, inl, inr}, Bool.{Bool, true, false, false≢true, _&&_}, List.{List, [], _∷_, _++_}}
 use borrow.Author.Tests.{eqb-true, eq-eqb}
-use Rattle.rules.specs.Tests.{_=?_}
-use Rattle.rules.specs.Numbers.{verification}
-use Rattle.rules.specs.Record.{Module, _is_}
-use Rattle.rules.specs.Image.{imageOf}
-use Rattle.rules.specs.Module.{Event, tick, step}
-use Rattle.rules.specs.History.{All, keep, only, historyOf, end, Same, _and-then_}
-use Rattle.rules.specs.Transfers.{machine, Exchange, History, kindOf, none, AllInOrder, AllByStarter}
-use Rattle.rules.specs.Hosts.{Honest}
-use Rattle.rules.specs.Sends.{isSendOf, ownSend, ownSends, others, pieces, SentBy, FinishedIn, ticksIn, powerCycles}
+use Rattle.rules.{specs.Tests._=?_, specs.Numbers.verification, specs.Record.{Module, _is_}, specs.Image.imageOf, specs.Module.{Event, tick, step}}
+use Rattle.rules.{specs.History.{All, keep, only, historyOf, end, Same, _and-then_}, specs.Transfers.{machine, Exchange, History, kindOf, none, AllInOrder, AllByStarter}}
+use Rattle.rules.{specs.Hosts.Honest, specs.Sends.{isSendOf, ownSend, ownSends, others, pieces, SentBy, FinishedIn, ticksIn, powerCycles}}
 use Rattle.rules.specs.Moves.{moved, ByMoves, as-it-is, one-more, rearranged}
 use Rattle.rules.specs.Demand3.{freshWith, struck, Received, OwnPieces, AllMoved, stagedWith, Stages, Due, StagedOnce, OneWaits, NeverAgain, Demand3Of, Demand3, DemandOfWhatRemains, DemandFromAnywhere, DemandWithAnyHosts}
-use Rattle.rules.specs.declared.Phase.{Phase}
-use Rattle.rules.specs.declared.Phase.the-variants.{Staged}
-use Rattle.rules.proofs.page.Choice.{and-true}
-use Rattle.rules.proofs.page.Facts.{is-phase}
+use Rattle.rules.{specs.declared.Phase.Phase, specs.declared.Phase.the-variants.Staged, proofs.page.Choice.and-true, proofs.page.Facts.is-phase}
 use Rattle.rules_demands.specs.Words.{remaining, sendsWith, othersThan, ticks, powers, answersTo}
 use Rattle.rules_demands.specs.Histories.{after, receivedBy, SameWrittenOut, TransferIn, movedTo, Moves, no-move, and-move, RearrangedWrittenOut, StagesWrittenOut, DueWrittenOut, FromAnywhereWrittenOut, WithAnyHostsWrittenOut, WithHonestHostsWrittenOut, AllWrittenOut, Of, Demand3WrittenOut}
 use Rattle.rules_demands.proofs.Words.{kind-is, remaining-is, sends-is, others-is, sent-is, ticks-is, powers-is, history-is, end-is, plays-is}
-use Rattle.rules_demands.proofs.Turns.{in-turn, one-host}
-use Rattle.rules_demands.proofs.Checked.{checked}
+use Rattle.rules_demands.proofs.{Turns.{in-turn, one-host}, Checked.checked}
 
 -- the same answers and the same end
 same-written : (m : Module) (h k : History) → Same machine m h k → SameWrittenOut m h k

@@ -1,25 +1,16 @@
 -- The incident, computed: the recorder's own updater and the technician's laptop load firmware in the same hour, both honest. Demand 3 is not empty.
 -- Assumes nothing.
 use Prim.Native.Nat.{ℕ, _+_}
-use mathlib.Core.Path.{_≡_, refl}
-use mathlib.Core.List.{List, [], _∷_, _++_, map}
+use mathlib.Core.{Path.{_≡_, refl}, List.{List, [], _∷_, _++_, map}}
 use native.Mathlib.Omega.{arith}
 use lib.ListN.{length, take, drop, replicate, length-replicate}
-use Rattle.rules.specs.Bytes.{le, zeros, zeros?}
-use Rattle.rules.specs.Numbers.{areaSize, answerRoom}
-use Rattle.rules.specs.Record.{phaseNumber, possible, possibleTransfer, possibleSecurity, possibleThresholds, Module}
-use Rattle.rules.specs.Refusals.{verdict}
-use Rattle.rules.specs.Table.{rowOf, fits?}
-use Rattle.rules.specs.Image.{sumOfWords, goodRecord, goodRecords, goodImage, imageOf}
-use Rattle.rules.specs.Module.{Result, Event, call, tick, power, step, callResult, tickResult, powerResult}
-use Rattle.rules.specs.Replay.{printedStatus, printedExt}
-use Rattle.rules.specs.History.{historyOf}
-use Rattle.rules.specs.Transfers.{machine, Exchange}
-use Rattle.rules.specs.Moves.{rearranged}
-use Rattle.rules.specs.Hosts.{Honest}
-use Rattle.rules.specs.Demand3.{freshWith, struck, EachFromOneHost, Demand3Of}
+use Rattle.rules.{specs.Bytes.{le, zeros, zeros?}, specs.Numbers.{areaSize, answerRoom}}
+use Rattle.rules.{specs.Record.{phaseNumber, possible, possibleTransfer, possibleSecurity, possibleThresholds, Module}, specs.Refusals.verdict}
+use Rattle.rules.{specs.Table.{rowOf, fits?}, specs.Image.{sumOfWords, goodRecord, goodRecords, goodImage, imageOf}}
+use Rattle.rules.{specs.Module.{Result, Event, call, tick, power, step, callResult, tickResult, powerResult}, specs.Replay.{printedStatus, printedExt}}
+use Rattle.rules.{specs.History.historyOf, specs.Transfers.{machine, Exchange}, specs.Moves.rearranged, specs.Hosts.Honest}
+use Rattle.rules.{specs.Demand3.{freshWith, struck, EachFromOneHost, Demand3Of}, proofs.histories.Demand3.demand-3}
 use Rattle.rules_demands.proofs.Checked.{checked}
-use Rattle.rules.proofs.histories.Demand3.{demand-3}
 
 abbrev recorder : ℕ
 recorder = 1

@@ -1,13 +1,9 @@
 -- The table by its indexes: what holds of every line, each at its own index, and of an index that the table lacks, holds at every index.
 -- Assumes nothing.
 use Prim.Native.Nat.{ℕ}
-use mathlib.Core.Path.{_≡_, refl, sym, subst}
-use mathlib.Core.Bool.{Bool, true, false}
-use mathlib.Core.List.{List, [], _∷_}
+use mathlib.Core.{Path.{_≡_, refl, sym, subst}, Bool.{Bool, true, false}, List.{List, [], _∷_}}
 use borrow.Author.Tests.{eqb-true}
-use Rattle.rules.specs.Tests.{if_then_else_, _=?_}
-use Rattle.rules.specs.Table.{unserved, lookUp}
-use Rattle.rules.specs.declared.Row.{Row}
+use Rattle.rules.{specs.Tests.{if_then_else_, _=?_}, specs.Table.{unserved, lookUp}, specs.declared.Row.Row}
 
 abbrev pub AllAt : (ℕ → Row → Type 0) → List (ℕ × Row) → Type 0
 AllAt P [] = Unit {0}

@@ -2,15 +2,12 @@
 -- Assumes nothing.
 use Prim.Native.Nat.{ℕ}
 use native.Mathlib.Omega.{arith}
-use mathlib.Core.Path.{_≡_, refl, sym, _∙_, ap, subst}
-use mathlib.Core.Logic.{_⊎_, inl, inr}
-use mathlib.Core.List.{List, [], _∷_, _++_, append-nil, append-assoc}
+use mathlib.Core.{Path.{_≡_, refl, sym, _∙_, ap, subst}, Logic.{_⊎_, inl, inr}, List.{List, [], _∷_, _++_, append-nil, append-assoc}}
 use lib.ListN.{length}
 use Rattle.rules.specs.History.{All, leadsTo, _and-then_}
 use Rattle.rules.specs.Transfers.{Exchange, History, Kind, Started, Sent, Finished, Ticked, Powered, Other, kindOf, Open, none, by, openAfter, openNext, InOrder, AllInOrder, ByStarter, AllByStarter}
 use Rattle.rules.proofs.histories.Joining.{leads-join, throughout-right}
-use Rattle.rules_demands.specs.Words.{what, bytesOf, joined}
-use Rattle.rules_demands.specs.Histories.{LeavesOpen, OpenAfter, OneAfterAnotherWrittenOut, FromOneHostWrittenOut}
+use Rattle.rules_demands.specs.{Words.{what, bytesOf, joined}, Histories.{LeavesOpen, OpenAfter, OneAfterAnotherWrittenOut, FromOneHostWrittenOut}}
 use Rattle.rules_demands.proofs.Words.{kind-is}
 
 -- what is open after a history that began with none

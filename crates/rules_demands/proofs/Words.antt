@@ -1,23 +1,13 @@
 -- The words written out are the words of demand 3: the same kind of every exchange, the same lists, bytes and counts, the same histories and ends.
 -- Assumes nothing.
 use Prim.Native.Nat.{ℕ, _+_}
-use mathlib.Core.Path.{_≡_, refl, _∙_, ap}
-use mathlib.Core.Bool.{Bool, true, false, not}
-use mathlib.Core.List.{List, [], _∷_, _++_}
-use Rattle.rules.specs.Tests.{if_then_else_, _=?_}
-use Rattle.rules.specs.Record.{Module}
-use Rattle.rules.specs.Table.{table, rowOf}
-use Rattle.rules.specs.Module.{Event, call, tick, power, step, callOf, callIn}
+use mathlib.Core.{Path.{_≡_, refl, _∙_, ap}, Bool.{Bool, true, false, not}, List.{List, [], _∷_, _++_}}
+use Rattle.rules.{specs.Tests.{if_then_else_, _=?_}, specs.Record.Module, specs.Table.{table, rowOf}, specs.Module.{Event, call, tick, power, step, callOf, callIn}}
 use Rattle.rules.specs.History.{keep, historyOf, end, Plays}
 use Rattle.rules.specs.Transfers.{Answer, machine, Exchange, History, Kind, Started, Sent, Finished, Ticked, Powered, Other, callKind, eventKind, kindOf}
-use Rattle.rules.specs.Sends.{isSendOf, ownSends, others, pieceOf, pieces, tickCount, ticksIn, powerCount, powerCycles}
-use Rattle.rules.specs.Demand3.{remains, struck}
-use Rattle.rules.specs.declared.Row.{Row}
-use Rattle.rules.specs.declared.Refusal.the-variants.{R, Status}
-use Rattle.rules.specs.declared.Verdict.{Verdict}
-use Rattle.rules.specs.declared.Verdict.the-variants.{Accepted, Refused}
-use Rattle.rules.proofs.page.Choice.{if-both}
-use Rattle.rules.proofs.page.Rows.{looked-up}
+use Rattle.rules.{specs.Sends.{isSendOf, ownSends, others, pieceOf, pieces, tickCount, ticksIn, powerCount, powerCycles}, specs.Demand3.{remains, struck}}
+use Rattle.rules.{specs.declared.Row.Row, specs.declared.Refusal.the-variants.{R, Status}, specs.declared.Verdict.Verdict}
+use Rattle.rules.{specs.declared.Verdict.the-variants.{Accepted, Refused}, proofs.page.Choice.if-both, proofs.page.Rows.looked-up}
 use Rattle.rules_demands.specs.Words.{acceptedAs, answeredAs, what, stays, remaining, sendWith, sendsWith, othersThan, bytesOf, joined, oneForTick, ticks, oneForPower, powers, eventsOf, comesTo, answersTo}
 use Rattle.rules_demands.proofs.Places.{looked-at}
 

@@ -1,20 +1,13 @@
 -- What the page says of one event, beside the demands, written out with none of the words of rules' Beside.antt.
 -- Assumes nothing.
 use Prim.Native.Nat.{ℕ, _≤_}
-use mathlib.Core.Path.{_≡_}
-use mathlib.Core.Logic.{_⊎_}
-use mathlib.Core.Bool.{true}
-use mathlib.Core.List.{List}
+use mathlib.Core.{Path._≡_, Logic._⊎_, Bool.true, List.List}
 use lib.ListN.{length}
 use Rattle.rules.specs.Record.{possible, Module}
 use Rattle.rules.specs.Refusals.{verdict}
 use Rattle.rules.specs.Security.{GetSecurityState, SetPassphrase, Disable, Unlock, Freeze, securityChecks}
 use Rattle.rules.specs.Module.{call, tick, power, step}
-use Rattle.rules.specs.declared.Refusal.{Refusal}
-use Rattle.rules.specs.declared.Refusal.the-variants.{Status}
-use Rattle.rules.specs.declared.Verdict.the-variants.{Accepted, Refused}
-use Rattle.rules.specs.declared.Phase.the-variants.{Staged}
-use Rattle.rules.specs.declared.Security.{Security}
+use Rattle.rules.specs.declared.{Refusal.Refusal, Refusal.the-variants.Status, Verdict.the-variants.{Accepted, Refused}, Phase.the-variants.Staged, Security.Security}
 
 -- nothing but an accepted call of function 14 changes the area
 pub record AreaWrittenOut (m : Module) : Type 0 where

@@ -2,10 +2,7 @@
 -- every event keeps. `demand_1` promises both, this one proved from that one, so that a line of Demand1.antt that says less no longer gives it.
 -- Assumes nothing.
 use Prim.Native.Nat.{ℕ, _+_, _-_, _<_}
-use mathlib.Core.Path.{_≡_}
-use mathlib.Core.Logic.{_⊎_, _↔_}
-use mathlib.Core.Bool.{true, not, _||_}
-use mathlib.Core.List.{List, [], _∷_, _++_}
+use mathlib.Core.{Path._≡_, Logic.{_⊎_, _↔_}, Bool.{true, not, _||_}, List.{List, [], _∷_, _++_}}
 use lib.ListN.{length, take, drop}
 use Rattle.rules.specs.Tests.{if_then_else_, _=?_, _<?_}
 use Rattle.rules.specs.Bytes.{le, zeros}
@@ -14,9 +11,7 @@ use Rattle.rules.specs.Record.{fresh, possible, Module, moduleOf}
 use Rattle.rules.specs.Refusals.{_gives_, verdict}
 use Rattle.rules.specs.Table.{rowOf, servedCheck, lengthCheck}
 use Rattle.rules.specs.Module.{Result, reply, callIn, checks, callResult, Event, call, tick, power, step}
-use Rattle.rules.specs.declared.Refusal.{Refusal}
-use Rattle.rules.specs.declared.Refusal.the-variants.{R, Status}
-use Rattle.rules.specs.declared.Verdict.the-variants.{Accepted, Refused}
+use Rattle.rules.specs.declared.{Refusal.Refusal, Refusal.the-variants.{R, Status}, Verdict.the-variants.{Accepted, Refused}}
 
 -- bytes over the front of a buffer
 abbrev pub overFront : (bytes buffer : List ℕ) → List ℕ

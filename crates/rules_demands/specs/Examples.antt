@@ -1,9 +1,7 @@
 -- What the case list and the list of texts must have, so that neither loses a row, nor the machinery its eyes.
 -- Assumes nothing.
 use Prim.Native.Nat.{ℕ, _+_}
-use mathlib.Core.Path.{_≡_}
-use mathlib.Core.Bool.{Bool, true}
-use mathlib.Core.List.{List, [], _∷_, _++_, map}
+use mathlib.Core.{Path._≡_, Bool.{Bool, true}, List.{List, [], _∷_, _++_, map}}
 use lib.ListN.{length, replicate}
 use Rattle.rules.specs.Tests.{if_then_else_}
 use Rattle.rules.specs.With.{_with-transfer_, _with-phase_, _with-received_, _with-staged_}
@@ -13,8 +11,7 @@ use Rattle.rules.specs.Text.{ascii}
 use Rattle.rules.specs.Replay.{replayStart, replayText}
 use Rattle.rules.specs.Cases.{Deed, _gets_, passing, Case, cases, failing}
 use Rattle.rules.specs.Texts.{texts, logOf, textOf}
-use Rattle.rules.specs.declared.Phase.{Phase}
-use Rattle.rules.specs.declared.Phase.the-variants.{Idle, Verifying, Staged, Failed}
+use Rattle.rules.specs.declared.{Phase.Phase, Phase.the-variants.{Idle, Verifying, Staged, Failed}}
 
 -- a Start and a Finish at revision 2, lent 64 bytes of this number
 abbrev asks : (index : ℕ) (request : List ℕ) (lent : ℕ) → Event

@@ -2,18 +2,14 @@
 -- proved from that one, so that a line there that says less no longer gives it.
 -- Assumes nothing.
 use Prim.Native.Nat.{ℕ, _≤_, _<_}
-use mathlib.Core.Path.{_≡_}
-use mathlib.Core.Logic.{_⊎_, _↔_}
-use mathlib.Core.Bool.{true}
-use mathlib.Core.List.{List, _∷_}
+use mathlib.Core.{Path._≡_, Logic.{_⊎_, _↔_}, Bool.true, List.{List, _∷_}}
 use lib.ListN.{length, take}
 use Rattle.rules.specs.Record.{fresh, possible, Module, moduleOf}
 use Rattle.rules.specs.Image.{imageOf}
 use Rattle.rules.specs.Module.{Event, tick, step}
 use Rattle.rules.specs.History.{All, _and-then_}
 use Rattle.rules.specs.Transfers.{Exchange, History, Kind, Started, Sent, Finished, Ticked, Powered, Other}
-use Rattle.rules.specs.declared.Image.the-variants.{Good}
-use Rattle.rules.specs.declared.Phase.the-variants.{Staged}
+use Rattle.rules.specs.declared.{Image.the-variants.Good, Phase.the-variants.Staged}
 use Rattle.rules_demands.specs.Words.{what, remaining, sendsWith, othersThan, joined, ticks, powers, eventsOf, comesTo, answersTo, honest?}
 
 -- the module after a history, and the bytes of its area that are received

@@ -2,17 +2,14 @@
 -- the history that events make; and a test for honest hosts.
 -- Assumes nothing.
 use Prim.Native.Nat.{ℕ, _+_}
-use mathlib.Core.Bool.{Bool, true, false, _&&_, _||_}
-use mathlib.Core.List.{List, [], _∷_, _++_}
+use mathlib.Core.{Bool.{Bool, true, false, _&&_, _||_}, List.{List, [], _∷_, _++_}}
 use lib.ListN.{length, drop}
 use Rattle.rules.specs.Tests.{if_then_else_, _≤?_, _=?_, _implies_}
 use Rattle.rules.specs.Bytes.{numberAt}
 use Rattle.rules.specs.Record.{Module}
 use Rattle.rules.specs.Module.{Event, call, tick, power, step}
 use Rattle.rules.specs.Transfers.{Exchange, History, Kind, Started, Sent, Finished, Ticked, Powered, Other}
-use Rattle.rules.specs.declared.Refusal.the-variants.{R, Status}
-use Rattle.rules.specs.declared.Verdict.{Verdict}
-use Rattle.rules.specs.declared.Verdict.the-variants.{Accepted, Refused}
+use Rattle.rules.specs.declared.{Refusal.the-variants.{R, Status}, Verdict.Verdict, Verdict.the-variants.{Accepted, Refused}}
 
 -- What an exchange is to the transfers: an accepted call of function 13, 14 or 15, by its bytes; a tick; a power cycle; or none of these.
 abbrev pub acceptedAs : (host index : ℕ) (request buffer : List ℕ) → Kind

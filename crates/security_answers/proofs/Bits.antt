@@ -1,7 +1,6 @@
 -- The state byte by shifts is the state byte by sums.
 -- Assumes nothing.
-use mathlib.Core.Path.{_≡_, refl}
-use mathlib.Core.Bool.{Bool, true, false}
+use mathlib.Core.{Path.{_≡_, refl}, Bool.{Bool, true, false}}
 use Prim.Native.Nat.{_+_, _*_, _%_}
 use lib.Bits.{bitOr}
 use mir.Val.{boolByte}

@@ -1,7 +1,6 @@
 -- Any two results that the promise of a writing function allows agree: one buffer, and one place after the text.
 -- Assumes nothing.
-use mathlib.Core.Path.{_≡_, sym, _∙_}
-use mathlib.Core.List.{List}
+use mathlib.Core.{Path.{_≡_, sym, _∙_}, List.List}
 use Prim.Native.Nat.{ℕ}
 use Rattle.text.specs.Wrote.{Wrote}
 

@@ -1,13 +1,9 @@
 -- Laws of writing: one text after another is the two at once.
 -- Assumes nothing.
-use mathlib.Core.Path.{_≡_, refl, sym, _∙_, ap, subst}
-use mathlib.Core.List.{List, [], _∷_, _++_}
+use mathlib.Core.{Path.{_≡_, refl, sym, _∙_, ap, subst}, List.{List, [], _∷_, _++_}}
 use Prim.Native.Nat.{ℕ, _≤_, _<_, _+_}
-use native.Mathlib.Nat.{zero-add}
-use native.Mathlib.Numerals.{add-one}
-use native.Mathlib.Omega.{arith}
-use lib.ListN.{length, take, drop, set, length-append}
-use lib.Seq.{set-split, take-append-seam}
+use native.Mathlib.{Nat.zero-add, Numerals.add-one, Omega.arith}
+use lib.{ListN.{length, take, drop, set, length-append}, Seq.{set-split, take-append-seam}}
 use Rattle.rules.specs.Bytes.{splice}
 use Rattle.bytes_base.proofs.Parts.{splice-splice}
 use Rattle.text.specs.Wrote.{Wrote}

@@ -1,16 +1,11 @@
 -- The name of a phase that is known.
 -- Assumes nothing.
-use mathlib.Core.Path.{_≡_, sym, ap}
-use mathlib.Core.List.{List}
+use mathlib.Core.{Path.{_≡_, sym, ap}, List.List}
 use Prim.Native.Nat.{ℕ, _≤_, _+_}
 use native.Mathlib.Omega.{arith}
 use lib.ListN.{length}
-use Rattle.rules.specs.Text.{ascii}
-use Rattle.rules.specs.Replay.{phaseName}
-use Rattle.rules.specs.declared.Phase.{Phase}
-use Rattle.rules.specs.declared.Phase.the-variants.{Idle, Receiving, Verifying, Staged, Failed}
-use Rattle.text.specs.Wrote.{Wrote}
-use Rattle.text.proofs.Writing.{rewrote}
+use Rattle.rules.{specs.Text.ascii, specs.Replay.phaseName, specs.declared.Phase.Phase, specs.declared.Phase.the-variants.{Idle, Receiving, Verifying, Staged, Failed}}
+use Rattle.text.{specs.Wrote.Wrote, proofs.Writing.rewrote}
 
 short-name : (p : Phase) → length (ascii (phaseName p)) ≤ 9
 short-name Idle = omega arith

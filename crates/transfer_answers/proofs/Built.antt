@@ -1,13 +1,9 @@
 -- The answer of Get FW Info, built field by field over zeros.
 -- Assumes nothing.
-use mathlib.Core.Path.{_≡_, _∙_, ap}
+use mathlib.Core.{Path.{_≡_, _∙_, ap}, List.{List, _++_}}
 use Prim.Native.Nat.{ℕ}
-use mathlib.Core.List.{List, _++_}
 use lib.ListN.{replicate}
-use Rattle.rules.specs.Bytes.{le, splice}
-use Rattle.rules.specs.Refusals.{statusBytes}
-use Rattle.rules.specs.Transfer.{fwInfo}
-use Rattle.rules.specs.declared.Transfer.{Transfer}
+use Rattle.rules.{specs.Bytes.{le, splice}, specs.Refusals.statusBytes, specs.Transfer.fwInfo, specs.declared.Transfer.Transfer}
 
 pub info-built : (t : Transfer) {a b c d e f g : List ℕ}
     → a ≡ splice 4 (le 4 16384) (replicate 44 0)

@@ -2,12 +2,9 @@
 -- Assumes nothing.
 use Rattle.abi_keep.proofs.Numbers.{passed-on}
 use Rattle.device_bytes.specs.Encoding.{decodeOf}
-use Rattle.rules.specs.declared.Device.{Device}
-use Rattle.rules.specs.Record.{moduleOf}
-use Rattle.rules.specs.Module.{Result, callResult}
-use Rattle.abi.proofs.Kept.{call-keepable, of-decoded, called}
+use Rattle.rules.{specs.declared.Device.Device, specs.Record.moduleOf, specs.Module.{Result, callResult}}
+use Rattle.abi.proofs.{Kept.{call-keepable, of-decoded, called}, module_call.Statement.statement}
 use borrow.Author.Needs.{needs}
-use Rattle.abi.proofs.module_call.Statement.{statement}
 use Rattle.abi.proofs.module_call.Tie as tie
 
 keep-requires : tie.Need-keep-requires

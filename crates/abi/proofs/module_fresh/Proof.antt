@@ -1,11 +1,10 @@
 -- `abi::module_fresh` meets its contract. A record of another length is refused; over 128 bytes the fresh record is written.
 -- Assumes nothing.
 use Rattle.abi_keep.proofs.Numbers.{passed-on}
-use Rattle.abi.proofs.Made.{made, not-made}
+use Rattle.abi.proofs.{Made.{made, not-made}, module_fresh.Statement.statement}
 use mathlib.Core.Path.{_∙_, ap}
 use Rattle.device_bytes.specs.Encoding.{encodeOf}
 use borrow.Author.Needs.{needs}
-use Rattle.abi.proofs.module_fresh.Statement.{statement}
 use Rattle.abi.proofs.module_fresh.Tie as tie
 
 returns : tie.Need-returns

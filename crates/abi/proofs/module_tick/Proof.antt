@@ -2,12 +2,9 @@
 -- Assumes nothing.
 use Rattle.abi_keep.proofs.Numbers.{passed-on}
 use Rattle.device_bytes.specs.Encoding.{decodeOf}
-use Rattle.rules.specs.declared.Device.{Device}
-use Rattle.rules.specs.Record.{moduleOf}
-use Rattle.rules.specs.Module.{tickResult}
-use Rattle.abi.proofs.Kept.{event-keepable, of-decoded, occurred}
+use Rattle.rules.{specs.declared.Device.Device, specs.Record.moduleOf, specs.Module.tickResult}
+use Rattle.abi.proofs.{Kept.{event-keepable, of-decoded, occurred}, module_tick.Statement.statement}
 use borrow.Author.Needs.{needs}
-use Rattle.abi.proofs.module_tick.Statement.{statement}
 use Rattle.abi.proofs.module_tick.Tie as tie
 
 keep-requires : tie.Need-keep-requires

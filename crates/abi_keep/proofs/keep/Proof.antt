@@ -2,10 +2,8 @@
 -- Assumes nothing.
 use mathlib.Core.Path.{refl, _∙_, ap}
 use Rattle.rules.specs.declared.Verdict.the-variants.{Refused}
-use Rattle.abi_keep.proofs.Numbers.{passed-on}
-use Rattle.abi_keep.proofs.Settled.{settled, counted, not-counted, sized-by}
+use Rattle.abi_keep.proofs.{Numbers.passed-on, Settled.{settled, counted, not-counted, sized-by}, keep.Statement.statement}
 use borrow.Author.Needs.{needs}
-use Rattle.abi_keep.proofs.keep.Statement.{statement}
 use Rattle.abi_keep.proofs.keep.Tie as tie
 
 enum-told : tie.Need-enum-told

@@ -1,8 +1,7 @@
 -- `abi_keep::length` meets its contract. A length within the answer buffer stays as it is (proofs/Numbers.antt).
 -- Assumes nothing.
-use Rattle.abi_keep.proofs.Numbers.{as-length}
+use Rattle.abi_keep.proofs.{Numbers.as-length, length.Statement.statement}
 use borrow.Author.Needs.{needs}
-use Rattle.abi_keep.proofs.length.Statement.{statement}
 use Rattle.abi_keep.proofs.length.Tie as tie
 
 cast-result : tie.Need-cast-result

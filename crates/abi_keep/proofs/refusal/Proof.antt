@@ -1,8 +1,7 @@
 -- `abi_keep::refusal` meets its contract. A byte's negation fits 32 bits (proofs/Numbers.antt).
 -- Assumes nothing.
-use Rattle.abi_keep.proofs.Numbers.{fits-negated, as-refusal}
+use Rattle.abi_keep.proofs.{Numbers.{fits-negated, as-refusal}, refusal.Statement.statement}
 use borrow.Author.Needs.{needs}
-use Rattle.abi_keep.proofs.refusal.Statement.{statement}
 use Rattle.abi_keep.proofs.refusal.Tie as tie
 
 cast-result : tie.Need-cast-result

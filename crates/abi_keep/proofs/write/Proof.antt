@@ -1,8 +1,7 @@
 -- `abi_keep::write` meets its contract. The record's bytes are written where they are kept.
 -- Assumes nothing.
-use Rattle.abi_keep.proofs.Numbers.{passed-on}
+use Rattle.abi_keep.proofs.{Numbers.passed-on, write.Statement.statement}
 use borrow.Author.Needs.{needs}
-use Rattle.abi_keep.proofs.write.Statement.{statement}
 use Rattle.abi_keep.proofs.write.Tie as tie
 
 returns : tie.Need-returns

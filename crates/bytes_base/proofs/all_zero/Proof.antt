@@ -1,13 +1,11 @@
 -- `bytes_base::all_zero` meets its contract: what was tested, and what is left of the slice, test as the whole.
 -- Assumes nothing.
-use mathlib.Core.Bool.{_&&_}
-use mathlib.Core.Path.{_≡_, refl}
+use mathlib.Core.{Bool._&&_, Path.{_≡_, refl}}
 use Prim.Native.Nat.{_≤_, _-_}
 use borrow.Author.Needs.{needs}
 use lib.ListN.{length, drop}
 use Rattle.rules.specs.Bytes.{zeros?}
-use Rattle.bytes_base.proofs.Laws.{zeros-on, zeros-end}
-use Rattle.bytes_base.proofs.all_zero.Statement.{statement}
+use Rattle.bytes_base.proofs.{Laws.{zeros-on, zeros-end}, all_zero.Statement.statement}
 use Rattle.bytes_base.proofs.all_zero.Tie as tie
 
 abbrev Inv-loop : tie.InvT-loop

@@ -1,13 +1,11 @@
 -- `bytes_base::copy` meets its contract. So far, the front holds what was copied and the rest is as it came.
 -- Assumes nothing.
 use borrow.Author.Needs.{needs}
-use mathlib.Core.Path.{_≡_, _∙_}
-use mathlib.Core.List.{_++_}
+use mathlib.Core.{Path.{_≡_, _∙_}, List._++_}
 use Prim.Native.Nat.{_≤_, _-_}
 use native.Mathlib.Omega.{arith}
 use lib.ListN.{length, drop, take, length-set}
-use Rattle.bytes_base.proofs.Laws.{copy-on, copy-end}
-use Rattle.bytes_base.proofs.copy.Statement.{statement}
+use Rattle.bytes_base.proofs.{Laws.{copy-on, copy-end}, copy.Statement.statement}
 use Rattle.bytes_base.proofs.copy.Tie as tie
 
 abbrev Inv-loop : tie.InvT-loop

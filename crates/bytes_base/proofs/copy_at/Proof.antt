@@ -1,9 +1,8 @@
 -- `bytes_base::copy_at` meets its contract. The part that is lent comes back with the bytes in it.
 -- Assumes nothing.
 use mathlib.Core.Path.{refl}
-use Rattle.bytes_base.proofs.Parts.{lent-copy}
+use Rattle.bytes_base.proofs.{Parts.lent-copy, copy_at.Statement.statement}
 use borrow.Author.Needs.{needs}
-use Rattle.bytes_base.proofs.copy_at.Statement.{statement}
 use Rattle.bytes_base.proofs.copy_at.Tie as tie
 
 returns : tie.Need-returns

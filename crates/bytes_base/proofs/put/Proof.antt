@@ -1,15 +1,12 @@
 -- `bytes_base::put` meets its contract. So far, the front with what is left of the number is the whole number.
 -- Assumes nothing.
-use native.Mathlib.Nat.{sub-zero}
+use native.Mathlib.{Nat.sub-zero, Omega.arith}
 use borrow.Author.Needs.{needs}
-use mathlib.Core.Path.{_≡_, refl, ap}
-use mathlib.Core.List.{_++_}
+use mathlib.Core.{Path.{_≡_, refl, ap}, List._++_}
 use Prim.Native.Nat.{_≤_, _-_}
-use native.Mathlib.Omega.{arith}
 use lib.ListN.{length, take, length-set}
 use Rattle.rules.specs.Bytes.{le}
-use Rattle.bytes_base.proofs.Le.{put-on, put-end}
-use Rattle.bytes_base.proofs.put.Statement.{statement}
+use Rattle.bytes_base.proofs.{Le.{put-on, put-end}, put.Statement.statement}
 use Rattle.bytes_base.proofs.put.Tie as tie
 
 abbrev Inv-loop : tie.InvT-loop

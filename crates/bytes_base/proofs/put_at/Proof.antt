@@ -1,8 +1,7 @@
 -- `bytes_base::put_at` meets its contract. The part that is lent comes back filled with the bytes of the number.
 -- Assumes nothing.
-use Rattle.bytes_base.proofs.Parts.{lent-le}
+use Rattle.bytes_base.proofs.{Parts.lent-le, put_at.Statement.statement}
 use borrow.Author.Needs.{needs}
-use Rattle.bytes_base.proofs.put_at.Statement.{statement}
 use Rattle.bytes_base.proofs.put_at.Tie as tie
 
 returns : tie.Need-returns

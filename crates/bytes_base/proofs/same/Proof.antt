@@ -1,14 +1,12 @@
 -- `bytes_base::same` meets its contract: what was compared, and what is left of the two, compare as the wholes.
 -- Assumes nothing.
-use mathlib.Core.Bool.{_&&_}
-use mathlib.Core.Path.{_≡_, refl}
+use mathlib.Core.{Bool._&&_, Path.{_≡_, refl}}
 use Prim.Native.Nat.{_≤_, _-_}
 use native.Mathlib.Omega.{arith}
 use borrow.Author.Needs.{needs}
 use lib.ListN.{length, drop}
 use Rattle.rules.specs.Bytes.{same?}
-use Rattle.bytes_base.proofs.Laws.{same-lengths, same-on, same-end}
-use Rattle.bytes_base.proofs.same.Statement.{statement}
+use Rattle.bytes_base.proofs.{Laws.{same-lengths, same-on, same-end}, same.Statement.statement}
 use Rattle.bytes_base.proofs.same.Tie as tie
 
 abbrev Inv-loop : tie.InvT-loop

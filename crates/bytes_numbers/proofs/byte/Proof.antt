@@ -1,9 +1,8 @@
 -- `bytes_numbers::byte` meets its contract. A byte is a number of one byte.
 -- Assumes nothing.
 use native.Mathlib.Omega.{arith}
-use Rattle.bytes_numbers.proofs.Bytes.{byte-at}
+use Rattle.bytes_numbers.proofs.{Bytes.byte-at, byte.Statement.statement}
 use borrow.Author.Needs.{needs}
-use Rattle.bytes_numbers.proofs.byte.Statement.{statement}
 use Rattle.bytes_numbers.proofs.byte.Tie as tie
 
 shared-slice-read-result : tie.Need-shared-slice-read-result

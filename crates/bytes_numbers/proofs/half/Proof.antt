@@ -1,9 +1,8 @@
 -- `bytes_numbers::half` meets its contract. The bytes by shifts are the number (proofs/Shifts.antt).
 -- Assumes nothing.
 use Prim.Native.Nat.{_+_}
-use Rattle.bytes_numbers.proofs.Shifts.{in-half, two}
+use Rattle.bytes_numbers.proofs.{Shifts.{in-half, two}, half.Statement.statement}
 use borrow.Author.Needs.{needs}
-use Rattle.bytes_numbers.proofs.half.Statement.{statement}
 use Rattle.bytes_numbers.proofs.half.Tie as tie
 
 cast-result : tie.Need-cast-result

@@ -1,9 +1,8 @@
 -- `bytes_numbers::long` meets its contract. The bytes by shifts are the number (proofs/Shifts.antt).
 -- Assumes nothing.
 use Prim.Native.Nat.{_+_}
-use Rattle.bytes_numbers.proofs.Shifts.{in-long, eight}
+use Rattle.bytes_numbers.proofs.{Shifts.{in-long, eight}, long.Statement.statement}
 use borrow.Author.Needs.{needs}
-use Rattle.bytes_numbers.proofs.long.Statement.{statement}
 use Rattle.bytes_numbers.proofs.long.Tie as tie
 
 cast-result : tie.Need-cast-result

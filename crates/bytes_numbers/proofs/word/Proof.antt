@@ -1,9 +1,8 @@
 -- `bytes_numbers::word` meets its contract. The bytes by shifts are the number (proofs/Shifts.antt).
 -- Assumes nothing.
 use Prim.Native.Nat.{_+_}
-use Rattle.bytes_numbers.proofs.Shifts.{in-word, four}
+use Rattle.bytes_numbers.proofs.{Shifts.{in-word, four}, word.Statement.statement}
 use borrow.Author.Needs.{needs}
-use Rattle.bytes_numbers.proofs.word.Statement.{statement}
 use Rattle.bytes_numbers.proofs.word.Tie as tie
 
 cast-result : tie.Need-cast-result

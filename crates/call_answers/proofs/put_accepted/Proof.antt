@@ -2,9 +2,7 @@
 -- Assumes nothing.
 use mathlib.Core.Path.{_∙_, ap}
 use Prim.Native.Nat.{ℕ}
-use Rattle.rules.specs.Bytes.{le, splice}
-use Rattle.rules.specs.Record.{moduleOf}
-use Rattle.rules.proofs.page.Told.{answered}
+use Rattle.rules.{specs.Bytes.{le, splice}, specs.Record.moduleOf, proofs.page.Told.answered}
 use borrow.Author.Needs.{needs}
 use Rattle.call_answers.proofs.put_accepted.Statement.{statement}
 use Rattle.call_answers.proofs.put_accepted.Tie as tie

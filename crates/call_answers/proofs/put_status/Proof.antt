@@ -1,9 +1,8 @@
 -- `call_answers::put_status` meets its contract. Three writes one after the other (proofs/Status.antt).
 -- Assumes nothing.
 use Prim.Native.Nat.{_-_}
-use Rattle.call_answers.proofs.Status.{status-written}
+use Rattle.call_answers.proofs.{Status.status-written, put_status.Statement.statement}
 use borrow.Author.Needs.{needs}
-use Rattle.call_answers.proofs.put_status.Statement.{statement}
 use Rattle.call_answers.proofs.put_status.Tie as tie
 
 returns : tie.Need-returns

@@ -4,13 +4,8 @@ use mathlib.Core.Path.{refl, _∙_, ap}
 use native.Mathlib.Omega.{arith}
 use lib.ListN.{length, length-drop}
 use Rattle.bytes_base.proofs.Parts.{rest}
-use Rattle.rules.specs.Security.{setPassphraseChange}
-use Rattle.rules.specs.Record.{moduleOf, _with-device_}
-use Rattle.rules.specs.With.{_with-transfer_, _with-thresholds_, _with-security_}
-use Rattle.rules.specs.declared.Device.{Device}
-use Rattle.rules.specs.declared.Transfer.{Transfer}
-use Rattle.rules.specs.declared.Thresholds.{Thresholds}
-use Rattle.rules.specs.declared.Security.{Security}
+use Rattle.rules.{specs.Security.setPassphraseChange, specs.Record.{moduleOf, _with-device_}, specs.With.{_with-transfer_, _with-thresholds_, _with-security_}}
+use Rattle.rules.{specs.declared.Device.Device, specs.declared.Transfer.Transfer, specs.declared.Thresholds.Thresholds, specs.declared.Security.Security}
 use Rattle.rules.proofs.page.Told.{there, passed, changed}
 use borrow.Author.Needs.{needs}
 use Rattle.call_changes.proofs.change.Statement.{statement}

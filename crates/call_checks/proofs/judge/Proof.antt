@@ -2,15 +2,10 @@
 -- Assumes nothing.
 use mathlib.Core.Path.{sym, _∙_, ap, subst}
 use lib.ListN.{length}
-use Rattle.rules.specs.Record.{moduleOf}
-use Rattle.rules.specs.Refusals.{verdict}
-use Rattle.rules.specs.Table.{rowOf}
-use Rattle.rules.specs.Module.{callOf, checks, gateChecks}
-use Rattle.rules.specs.declared.Row.{Row}
+use Rattle.rules.{specs.Record.moduleOf, specs.Refusals.verdict, specs.Table.rowOf, specs.Module.{callOf, checks, gateChecks}, specs.declared.Row.Row}
 use Rattle.rules.proofs.page.Fitting.{Fitting, gate-fits}
-use Rattle.call_checks.proofs.Joined.{stands, decides}
+use Rattle.call_checks.proofs.{Joined.{stands, decides}, judge.Statement.statement}
 use borrow.Author.Needs.{needs}
-use Rattle.call_checks.proofs.judge.Statement.{statement}
 use Rattle.call_checks.proofs.judge.Tie as tie
 
 judge-gate-requires : tie.Need-judge-gate-requires

@@ -2,11 +2,8 @@
 -- Assumes nothing.
 use mathlib.Core.Path.{refl, sym}
 use native.Mathlib.Omega.{arith}
-use lib.ListN.{length}
-use lib.Seq.{length-take-le}
-use Rattle.rules.specs.Record.{moduleOf}
-use Rattle.rules.specs.Refusals.{verdict}
-use Rattle.rules.proofs.page.Told.{there, judged}
+use lib.{ListN.length, Seq.length-take-le}
+use Rattle.rules.{specs.Record.moduleOf, specs.Refusals.verdict, proofs.page.Told.{there, judged}}
 use borrow.Author.Needs.{needs}
 use Rattle.call_checks.proofs.judge_function.Statement.{statement}
 use Rattle.call_checks.proofs.judge_function.Tie as tie

@@ -1,17 +1,11 @@
 -- `call_checks::judge_gate` meets its contract. R1, then R2 and R3, then the table.
 -- Assumes nothing.
-use mathlib.Core.Path.{sym, _∙_}
-use mathlib.Core.List.{[], _∷_, _++_}
+use mathlib.Core.{Path.{sym, _∙_}, List.{[], _∷_, _++_}}
 use lib.ListN.{length}
-use Rattle.rules.specs.Tests.{_<?_}
-use Rattle.rules.specs.Numbers.{answerRoom}
-use Rattle.rules.specs.Record.{moduleOf}
-use Rattle.rules.specs.Refusals.{verdict, eventChecks}
-use Rattle.rules.specs.Table.{servedCheck, lengthCheck}
+use Rattle.rules.{specs.Tests._<?_, specs.Numbers.answerRoom, specs.Record.moduleOf, specs.Refusals.{verdict, eventChecks}, specs.Table.{servedCheck, lengthCheck}}
 use Rattle.rules.specs.declared.Refusal.the-variants.{R}
-use Rattle.call_checks.proofs.Joined.{stands, decides, passed-by}
+use Rattle.call_checks.proofs.{Joined.{stands, decides, passed-by}, judge_gate.Statement.statement}
 use borrow.Author.Needs.{needs}
-use Rattle.call_checks.proofs.judge_gate.Statement.{statement}
 use Rattle.call_checks.proofs.judge_gate.Tie as tie
 
 returns : tie.Need-returns

@@ -1,7 +1,6 @@
 -- `call_table::look_up` meets its contract: at an index that the table has both sides compute, and what no arm has the table lacks.
 use mathlib.Core.Logic.{⊎-elim}
-use Rattle.call_table.proofs.Laws.{row-at, no-row-at}
-use Rattle.call_table.proofs.look_up.Statement.{statement}
+use Rattle.call_table.proofs.{Laws.{row-at, no-row-at}, look_up.Statement.statement}
 use Rattle.call_table.proofs.look_up.Tie as tie
 
 -- the ranges that the table skips: 1 and 18 by computation, 3 to 11 as all past it

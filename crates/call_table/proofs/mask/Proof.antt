@@ -1,8 +1,7 @@
 -- `call_table::mask` meets its contract: at revisions 1 and 2 both sides compute, and any other revision serves nothing.
 use mathlib.Core.Path.{sym, ap}
 use Rattle.rules.specs.Table.{mask}
-use Rattle.call_table.proofs.Laws.{no-bits}
-use Rattle.call_table.proofs.mask.Statement.{statement}
+use Rattle.call_table.proofs.{Laws.no-bits, mask.Statement.statement}
 use Rattle.call_table.proofs.mask.Tie as tie
 
 returns : tie.Need-returns

@@ -1,8 +1,7 @@
 -- `device_decode::decode` meets its contract. What is a record is read; anything else is the impossible one.
 -- Assumes nothing.
 use mathlib.Core.Path.{_∙_, sym}
-use Rattle.device_bytes.specs.Encoding.{decodeOf}
-use Rattle.device_bytes.proofs.Fine.{fine}
+use Rattle.device_bytes.{specs.Encoding.decodeOf, proofs.Fine.fine}
 use borrow.Author.Needs.{needs}
 use Rattle.device_decode.proofs.decode.Statement.{statement}
 use Rattle.device_decode.proofs.decode.Tie as tie

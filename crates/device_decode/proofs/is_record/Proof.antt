@@ -1,10 +1,8 @@
 -- `device_decode::is_record` meets its contract. The tests are the definition's, over bytes that were read (proofs/Decoded.antt).
 -- Assumes nothing.
-use borrow.Author.Tests.{ne-eqb}
+use borrow.{Author.Tests.ne-eqb, Author.Needs.needs}
 use Rattle.device_bytes.specs.Encoding.{record?}
-use Rattle.device_decode.proofs.Decoded.{tested}
-use borrow.Author.Needs.{needs}
-use Rattle.device_decode.proofs.is_record.Statement.{statement}
+use Rattle.device_decode.proofs.{Decoded.tested, is_record.Statement.statement}
 use Rattle.device_decode.proofs.is_record.Tie as tie
 
 returns : tie.Need-returns
@@ -13,7 +11,10 @@ returns c = simp (ne-eqb _ 128 (c .if1 .taken))
 
 returns-2 : tie.Need-returns-2
 returns-2 c =
-    tested (c .before .before .before .before .before .before .before .before .before .args .s .now) (c .before .before .before .before .before .before .before .if1 .left) (c .before .before .before .before .before .before .byte .ensures) (c .before .before .before .before .before .byte2 .ensures) (c .before .before .before .before .byte3 .ensures) (c .before .before .before .byte4 .ensures) (c .before .before .byte5 .ensures)
+    tested (c .before .before .before .before .before .before .before .before .before .args .s .now)
+    (c .before .before .before .before .before .before .before .if1 .left) (c .before .before .before .before .before .before .byte .ensures)
+    (c .before .before .before .before .before .byte2 .ensures) (c .before .before .before .before .byte3 .ensures) (c .before .before .before .byte4 .ensures)
+    (c .before .before .byte5 .ensures)
     (c .before .zero-between .ensures) (c .zero-after .ensures)
 
 -- by search: byte-requires, byte-requires-2, byte-requires-3, byte-requires-4, byte-requires-5, zero-between-requires, zero-after-requires

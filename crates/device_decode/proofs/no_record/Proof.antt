@@ -1,9 +1,7 @@
 -- `device_decode::no_record` meets its contract. A fresh record with another phase is the definition's.
 -- Assumes nothing.
 use mathlib.Core.Path.{ap}
-use Rattle.rules.specs.With.{_with-transfer_, _with-phase_}
-use Rattle.rules.specs.declared.Phase.the-variants.{Failed}
-use Rattle.rules.specs.declared.Device.{Device}
+use Rattle.rules.{specs.With.{_with-transfer_, _with-phase_}, specs.declared.Phase.the-variants.Failed, specs.declared.Device.Device}
 use Rattle.device_bytes.specs.Encoding.{impossible}
 use borrow.Author.Needs.{needs}
 use Rattle.device_decode.proofs.no_record.Statement.{statement}

@@ -1,9 +1,7 @@
 -- `device_decode::round_trip` meets its contract. What was encoded decodes to the same record, for each field fits its bytes (store/proofs/Back.antt).
 -- Assumes nothing.
 use mathlib.Core.Path.{_∙_, ap}
-use Rattle.device_bytes.specs.Encoding.{decodeOf}
-use Rattle.device_bytes.proofs.Back.{back}
-use Rattle.device_bytes.proofs.Range.{in-range}
+use Rattle.device_bytes.{specs.Encoding.decodeOf, proofs.Back.back, proofs.Range.in-range}
 use borrow.Author.Needs.{needs}
 use Rattle.device_decode.proofs.round_trip.Statement.{statement}
 use Rattle.device_decode.proofs.round_trip.Tie as tie

@@ -3,16 +3,22 @@
 use mathlib.Core.Path.{_∙_}
 use lib.ListN.{take, drop}
 use Rattle.bytes_base.proofs.Parts.{copy-whole}
-use Rattle.device_decode.proofs.Decoded.{read}
+use Rattle.device_decode.proofs.{Decoded.read, to_record.Statement.statement}
 use borrow.Author.Needs.{needs}
-use Rattle.device_decode.proofs.to_record.Statement.{statement}
 use Rattle.device_decode.proofs.to_record.Tie as tie
 
 returns : tie.Need-returns
 returns c =
     let s = c .before .before .before .before .before .before .before .before .before .before .before .before .before .before .before .before .before .before .before .before .args .s .now in
-    read s (c .before .before .before .before .before .before .before .before .before .before .before .before .before .before .before .before .before .before .byte .ensures) (c .before .before .before .before .before .before .before .before .before .before .before .before .before .before .before .before .before .phase-of .ensures) (c .before .before .before .before .before .before .before .before .before .before .before .before .before .before .before .before .word .ensures) (c .before .before .before .before .before .before .before .before .before .before .before .before .before .before .before .word2 .ensures) (c .before .before .before .before .before .before .before .before .before .before .before .before .before .before .byte2 .ensures) (c .before .before .before .before .before .before .before .before .before .before .before .before .before .long .ensures) (c .before .before .before .before .before .before .before .before .before .before .before .before .long2 .ensures)
-    (c .before .before .before .before .before .before .before .before .before .before .before .half .ensures) (c .before .before .before .before .before .before .before .before .before .before .byte3 .ensures) (c .before .before .before .before .before .before .before .before .before .half2 .ensures) (c .before .before .before .before .before .before .before .before .half3 .ensures)
+    read s (c .before .before .before .before .before .before .before .before .before .before .before .before .before .before .before .before .before .before .byte .ensures)
+    (c .before .before .before .before .before .before .before .before .before .before .before .before .before .before .before .before .before .phase-of .ensures)
+    (c .before .before .before .before .before .before .before .before .before .before .before .before .before .before .before .before .word .ensures)
+    (c .before .before .before .before .before .before .before .before .before .before .before .before .before .before .before .word2 .ensures) (c .before .before .before .before .before .before .before .before .before .before .before .before .before .before .byte2 .ensures)
+    (c .before .before .before .before .before .before .before .before .before .before .before .before .before .long .ensures) (c .before .before .before .before .before .before .before .before .before .before .before .before .long2 .ensures)
+    (c .before .before .before .before .before .before .before .before .before .before .before .half .ensures)
+    (c .before .before .before .before .before .before .before .before .before .before .byte3 .ensures)
+    (c .before .before .before .before .before .before .before .before .before .half2 .ensures)
+    (c .before .before .before .before .before .before .before .before .half3 .ensures)
     (c .before .before .before .before .before .copy .ensures ∙ copy-whole (take 32 (drop 64 s)) _ (search needs))
     (c .before .before .before .byte4 .ensures) (c .before .before .byte5 .ensures) (c .before .byte6 .ensures) (c .byte7 .ensures)
 

@@ -2,8 +2,7 @@
 -- Assumes nothing.
 use mathlib.Core.Path.{_∙_, ap}
 use native.Mathlib.Omega.{arith}
-use lib.ListN.{drop, length-drop}
-use lib.Seq.{take-all}
+use lib.{ListN.{drop, length-drop}, Seq.take-all}
 use Rattle.rules.specs.Bytes.{zeros?}
 use Rattle.bytes_numbers.proofs.Zeros.{zero-first, zero-more}
 use borrow.Author.Needs.{needs}

@@ -1,16 +1,12 @@
 -- `device_encode::put` meets its contract. Its parts, each right behind the one before, are all of the 128 bytes (proofs/Built.antt).
 -- Assumes nothing.
-use mathlib.Core.Path.{_∙_}
-use mathlib.Core.List.{_++_}
+use mathlib.Core.{Path._∙_, List._++_}
 use native.Mathlib.Omega.{arith}
 use Rattle.rules.specs.Bytes.{zeros}
 use Rattle.bytes_base.proofs.Parts.{copy-whole}
-use Rattle.device_bytes.specs.Encoding.{firstBytes, transferBytes, encodedThresholds, encodeOf}
-use Rattle.device_encode.proofs.Built.{Placed, then}
-use Rattle.device_bytes.proofs.Back.{long}
-use Rattle.device_bytes.proofs.Range.{in-range}
+use Rattle.device_bytes.{specs.Encoding.{firstBytes, transferBytes, encodedThresholds, encodeOf}, proofs.Back.long, proofs.Range.in-range}
+use Rattle.device_encode.proofs.{Built.{Placed, then}, put.Statement.statement}
 use borrow.Author.Needs.{needs}
-use Rattle.device_encode.proofs.put.Statement.{statement}
 use Rattle.device_encode.proofs.put.Tie as tie
 
 returns : tie.Need-returns

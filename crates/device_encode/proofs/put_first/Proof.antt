@@ -3,12 +3,10 @@
 use mathlib.Core.Path.{_∙_, ap}
 use Prim.Native.Nat.{ℕ}
 use native.Mathlib.Omega.{arith}
-use Rattle.rules.specs.Bytes.{le, splice}
-use Rattle.rules.specs.Record.{phaseNumber}
-use Rattle.device_encode.proofs.Built.{Placed, then}
+use Rattle.rules.{specs.Bytes.{le, splice}, specs.Record.phaseNumber}
+use Rattle.device_encode.proofs.{Built.{Placed, then}, put_first.Statement.statement}
 use Rattle.device_bytes.specs.Encoding.{stateBytes}
 use borrow.Author.Needs.{needs}
-use Rattle.device_encode.proofs.put_first.Statement.{statement}
 use Rattle.device_encode.proofs.put_first.Tie as tie
 
 returns : tie.Need-returns

@@ -4,10 +4,9 @@ use mathlib.Core.Path.{sym, _∙_, ap}
 use Prim.Native.Nat.{ℕ, _+_}
 use native.Mathlib.Omega.{arith}
 use Rattle.rules.specs.Bytes.{zeros, splice}
-use Rattle.device_encode.proofs.Built.{Placed, then}
+use Rattle.device_encode.proofs.{Built.{Placed, then}, put_passphrase.Statement.statement}
 use Rattle.device_bytes.proofs.Range.{passphrase-long}
 use borrow.Author.Needs.{needs}
-use Rattle.device_encode.proofs.put_passphrase.Statement.{statement}
 use Rattle.device_encode.proofs.put_passphrase.Tie as tie
 
 returns : tie.Need-returns

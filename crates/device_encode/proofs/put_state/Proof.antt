@@ -1,13 +1,11 @@
 -- `device_encode::put_state` meets its contract. Four stores, each right behind the one before (proofs/Built.antt).
 -- Assumes nothing.
-use mathlib.Core.Path.{_∙_}
-use mathlib.Core.List.{_++_}
+use mathlib.Core.{Path._∙_, List._++_}
 use native.Mathlib.Omega.{arith}
 use mir.Val.{boolByte}
 use Rattle.rules.specs.Bytes.{le, splice}
-use Rattle.device_encode.proofs.Built.{Placed, then, flag-byte}
+use Rattle.device_encode.proofs.{Built.{Placed, then, flag-byte}, put_state.Statement.statement}
 use borrow.Author.Needs.{needs}
-use Rattle.device_encode.proofs.put_state.Statement.{statement}
 use Rattle.device_encode.proofs.put_state.Tie as tie
 
 returns : tie.Need-returns

@@ -2,9 +2,8 @@
 -- Assumes nothing.
 use native.Mathlib.Omega.{arith}
 use Rattle.rules.specs.Bytes.{le, zeros}
-use Rattle.device_encode.proofs.Built.{Placed, then}
+use Rattle.device_encode.proofs.{Built.{Placed, then}, put_thresholds.Statement.statement}
 use borrow.Author.Needs.{needs}
-use Rattle.device_encode.proofs.put_thresholds.Statement.{statement}
 use Rattle.device_encode.proofs.put_thresholds.Tie as tie
 
 returns : tie.Need-returns

@@ -2,9 +2,8 @@
 -- Assumes nothing.
 use native.Mathlib.Omega.{arith}
 use Rattle.rules.specs.Bytes.{le}
-use Rattle.device_encode.proofs.Built.{Placed, then}
+use Rattle.device_encode.proofs.{Built.{Placed, then}, put_transfer.Statement.statement}
 use borrow.Author.Needs.{needs}
-use Rattle.device_encode.proofs.put_transfer.Statement.{statement}
 use Rattle.device_encode.proofs.put_transfer.Tie as tie
 
 returns : tie.Need-returns

@@ -1,12 +1,10 @@
 -- `device_slots::are_slots` meets its contract. The length is tested first, then the selector.
 -- Assumes nothing.
-use mathlib.Core.Path.{sym, ap}
-use mathlib.Core.Bool.{Bool, _&&_}
+use mathlib.Core.{Path.{sym, ap}, Bool.{Bool, _&&_}}
 use lib.ListN.{length}
 use Rattle.rules.specs.Tests.{_≤?_}
 use Rattle.device_slots.specs.Slots.{selector, slots?}
-use borrow.Author.Tests.{eq-eqb, ne-eqb}
-use borrow.Author.Needs.{needs}
+use borrow.{Author.Tests.{eq-eqb, ne-eqb}, Author.Needs.needs}
 use Rattle.device_slots.proofs.are_slots.Statement.{statement}
 use Rattle.device_slots.proofs.are_slots.Tie as tie
 

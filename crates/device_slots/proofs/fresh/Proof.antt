@@ -1,14 +1,11 @@
 -- `device_slots::fresh` meets its contract. The record's part comes back with the fresh record in it; behind it zeros, before it the selector.
 -- Assumes nothing.
-use mathlib.Core.Path.{_≡_, _∙_, ap}
-use mathlib.Core.List.{_∷_, _++_}
+use mathlib.Core.{Path.{_≡_, _∙_, ap}, List.{_∷_, _++_}}
 use lib.ListN.{set}
-use Rattle.rules.specs.Bytes.{zeros}
-use Rattle.rules.specs.Record.{fresh}
+use Rattle.rules.{specs.Bytes.zeros, specs.Record.fresh}
 use Rattle.device_bytes.specs.Encoding.{encodeOf}
-use Rattle.device_slots.proofs.Tested.{not-fresh, made, fresh-whole, fresh-length}
+use Rattle.device_slots.proofs.{Tested.{not-fresh, made, fresh-whole, fresh-length}, fresh.Statement.statement}
 use borrow.Author.Needs.{needs}
-use Rattle.device_slots.proofs.fresh.Statement.{statement}
 use Rattle.device_slots.proofs.fresh.Tie as tie
 
 returns : tie.Need-returns

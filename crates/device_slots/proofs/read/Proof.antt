@@ -1,11 +1,9 @@
 -- `device_slots::read` meets its contract. The test makes the selected slot one of the two, and its bytes go over the whole buffer.
 -- Assumes nothing.
 use lib.ListN.{length}
-use borrow.Author.Tests.{eqb-true}
+use borrow.{Author.Tests.eqb-true, Author.Needs.needs}
 use Rattle.rules.specs.Tests.{_=?_}
-use Rattle.device_slots.proofs.Tested.{Fine, slots-fine, rest-true, not-read, read-over}
-use borrow.Author.Needs.{needs}
-use Rattle.device_slots.proofs.read.Statement.{statement}
+use Rattle.device_slots.proofs.{Tested.{Fine, slots-fine, rest-true, not-read, read-over}, read.Statement.statement}
 use Rattle.device_slots.proofs.read.Tie as tie
 
 returns : tie.Need-returns

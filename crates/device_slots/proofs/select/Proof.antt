@@ -1,10 +1,8 @@
 -- `device_slots::select` meets its contract. The first byte alone is written.
 -- Assumes nothing.
-use borrow.Author.Tests.{leb-true}
+use borrow.{Author.Tests.leb-true, Author.Needs.needs}
 use Rattle.rules.specs.Tests.{_≤?_}
-use Rattle.device_slots.proofs.Tested.{slots-fine, rest-true, not-selected, selected}
-use borrow.Author.Needs.{needs}
-use Rattle.device_slots.proofs.select.Statement.{statement}
+use Rattle.device_slots.proofs.{Tested.{slots-fine, rest-true, not-selected, selected}, select.Statement.statement}
 use Rattle.device_slots.proofs.select.Tie as tie
 
 returns : tie.Need-returns

@@ -3,11 +3,9 @@
 use mathlib.Core.Path.{refl}
 use native.Mathlib.Omega.{arith}
 use lib.ListN.{length}
-use borrow.Author.Tests.{eqb-true}
+use borrow.{Author.Tests.eqb-true, Author.Needs.needs}
 use Rattle.rules.specs.Tests.{_=?_}
-use Rattle.device_slots.proofs.Tested.{Fine, slots-fine, rest-true, not-written, written}
-use borrow.Author.Needs.{needs}
-use Rattle.device_slots.proofs.write.Statement.{statement}
+use Rattle.device_slots.proofs.{Tested.{Fine, slots-fine, rest-true, not-written, written}, write.Statement.statement}
 use Rattle.device_slots.proofs.write.Tie as tie
 
 returns : tie.Need-returns

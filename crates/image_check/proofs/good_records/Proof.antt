@@ -3,11 +3,9 @@ use Prim.Native.Nat.{ℕ, _≤_, _-_, _*_}
 use mathlib.Core.Path.{_≡_, sym, _∙_, ap}
 use native.Mathlib.Nat.{sub-zero}
 use lib.ListN.{drop}
-use borrow.Author.Needs.{needs}
-use borrow.Author.Tests.{not-true, not-false}
+use borrow.{Author.Needs.needs, Author.Tests.{not-true, not-false}}
 use Rattle.rules.specs.Image.{goodRecords}
-use Rattle.image_check.proofs.Laws.{good-record-goes-on, bad-record-decides, no-record-left}
-use Rattle.image_check.proofs.good_records.Statement.{statement}
+use Rattle.image_check.proofs.{Laws.{good-record-goes-on, bad-record-decides, no-record-left}, good_records.Statement.statement}
 use Rattle.image_check.proofs.good_records.Tie as tie
 
 abbrev Inv-loop : tie.InvT-loop

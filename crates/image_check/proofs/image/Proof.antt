@@ -1,13 +1,10 @@
 -- `image_check::image` meets its contract: its tests are those of the definition, in its order.
-use mathlib.Core.Path.{_≡_, refl, sym, _∙_}
-use mathlib.Core.Bool.{true}
+use mathlib.Core.{Path.{_≡_, refl, sym, _∙_}, Bool.true}
 use native.Mathlib.Omega.{arith}
 use lib.ListN.{length}
-use borrow.Author.Needs.{needs}
-use borrow.Author.Tests.{not-true, not-false}
+use borrow.{Author.Needs.needs, Author.Tests.{not-true, not-false}}
 use Rattle.rules.specs.Image.{goodSize}
-use Rattle.image_check.proofs.Laws.{Sized, good-size, bad-size, by-version-and-records}
-use Rattle.image_check.proofs.image.Statement.{statement}
+use Rattle.image_check.proofs.{Laws.{Sized, good-size, bad-size, by-version-and-records}, image.Statement.statement}
 use Rattle.image_check.proofs.image.Tie as tie
 
 mul-sized : tie.Need-mul-sized

@@ -1,8 +1,6 @@
 -- `image_record::good_record` meets its contract: its four comparisons are those of the definition, in its order, and a bad field decides.
-use borrow.Author.Needs.{needs}
-use borrow.Author.Tests.{not-true, not-false}
-use Rattle.image_record.proofs.Laws.{bad-field-decides, sum-decides}
-use Rattle.image_record.proofs.good_record.Statement.{statement}
+use borrow.{Author.Needs.needs, Author.Tests.{not-true, not-false}}
+use Rattle.image_record.proofs.{Laws.{bad-field-decides, sum-decides}, good_record.Statement.statement}
 use Rattle.image_record.proofs.good_record.Tie as tie
 
 returns : tie.Need-returns

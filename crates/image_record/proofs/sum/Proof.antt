@@ -4,8 +4,7 @@ use mathlib.Core.Path.{_≡_}
 use native.Mathlib.Omega.{arith}
 use borrow.Author.Needs.{needs}
 use Rattle.rules.specs.Image.{sumOfWords}
-use Rattle.image_record.proofs.Laws.{wrapping-sum-of-one-more}
-use Rattle.image_record.proofs.sum.Statement.{statement}
+use Rattle.image_record.proofs.{Laws.wrapping-sum-of-one-more, sum.Statement.statement}
 use Rattle.image_record.proofs.sum.Tie as tie
 
 abbrev Inv-loop : tie.InvT-loop

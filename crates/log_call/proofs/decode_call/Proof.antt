@@ -1,6 +1,5 @@
 -- `log_call::decode_call` meets its contract: a good call's fields are read from their places, and any other is bad.
-use borrow.Author.Needs.{needs}
-use borrow.Author.Tests.{not-true, not-false}
+use borrow.{Author.Needs.needs, Author.Tests.{not-true, not-false}}
 use Rattle.log_call.proofs.decode_call.Statement.{statement}
 use Rattle.log_call.proofs.decode_call.Tie as tie
 

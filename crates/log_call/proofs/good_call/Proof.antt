@@ -1,10 +1,7 @@
 -- `log_call::good_call` meets its contract: it makes the definition's tests in their order, and stops at the first that fails.
-use mathlib.Core.Bool.{_&&_}
-use mathlib.Core.Path.{_∙_, ap}
-use borrow.Author.Needs.{needs}
-use borrow.Author.Tests.{not-true, not-false, lt-leb, le-leb}
-use Rattle.rules.specs.Tests.{_≤?_}
-use Rattle.rules.specs.Bytes.{zeros?}
+use mathlib.Core.{Bool._&&_, Path.{_∙_, ap}}
+use borrow.{Author.Needs.needs, Author.Tests.{not-true, not-false, lt-leb, le-leb}}
+use Rattle.rules.{specs.Tests._≤?_, specs.Bytes.zeros?}
 use Rattle.bytes_base.proofs.Parts.{rest}
 use Rattle.log_call.proofs.good_call.Statement.{statement}
 use Rattle.log_call.proofs.good_call.Tie as tie

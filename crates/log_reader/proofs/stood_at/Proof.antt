@@ -2,12 +2,9 @@
 -- Assumes nothing.
 use mathlib.Core.Path.{sym}
 use native.Mathlib.Omega.{arith}
-use borrow.Author.Tests.{eqb-true}
-use Rattle.rules.specs.Log.{recordsIn}
-use Rattle.rules.proofs.page.Choice.{and-true}
-use Rattle.log_reader.proofs.Places.{at-tail, at-end, decoded}
-use borrow.Author.Needs.{needs}
-use Rattle.log_reader.proofs.stood_at.Statement.{statement}
+use borrow.{Author.Tests.eqb-true, Author.Needs.needs}
+use Rattle.rules.{specs.Log.recordsIn, proofs.page.Choice.and-true}
+use Rattle.log_reader.proofs.{Places.{at-tail, at-end, decoded}, stood_at.Statement.statement}
 use Rattle.log_reader.proofs.stood_at.Tie as tie
 
 returns : tie.Need-returns

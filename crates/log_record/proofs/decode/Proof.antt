@@ -1,8 +1,7 @@
 -- `log_record::decode` meets its contract: the kind leaves one line of the definition, and that line is the arm's.
 use mathlib.Core.Path.{_∙_}
 use borrow.Author.Needs.{needs}
-use Rattle.log_record.proofs.ByKind.{of-no-record, of-kind-1, of-kind-2, of-kind-3, of-other-kind}
-use Rattle.log_record.proofs.decode.Statement.{statement}
+use Rattle.log_record.proofs.{ByKind.{of-no-record, of-kind-1, of-kind-2, of-kind-3, of-other-kind}, decode.Statement.statement}
 use Rattle.log_record.proofs.decode.Tie as tie
 
 -- the calls' requirements come between the first answer and the arms

@@ -2,12 +2,9 @@
 -- Assumes nothing.
 use native.Mathlib.Omega.{arith}
 use mathlib.Core.Path.{sym, _∙_, ap}
-use Rattle.rules.specs.Record.{moduleOf}
-use Rattle.rules.specs.declared.Verdict.the-variants.{Accepted, Refused}
-use Rattle.rules.proofs.page.Past.{attempts-most}
-use Rattle.module.proofs.Outcomes.{as-accepted, as-R, as-status, room, event-checks, fits, own-checks, status-fits}
+use Rattle.rules.{specs.Record.moduleOf, specs.declared.Verdict.the-variants.{Accepted, Refused}, proofs.page.Past.attempts-most}
+use Rattle.module.proofs.{Outcomes.{as-accepted, as-R, as-status, room, event-checks, fits, own-checks, status-fits}, call.Statement.statement}
 use borrow.Author.Needs.{needs}
-use Rattle.module.proofs.call.Statement.{statement}
 use Rattle.module.proofs.call.Tie as tie
 
 enum-told : tie.Need-enum-told

@@ -1,11 +1,8 @@
 -- `module::power` meets its contract. The verdict settles the result of the definition (proofs/Outcomes.antt).
 -- Assumes nothing.
-use Rattle.rules.specs.With.{_with-transfer_, _with-security_}
-use Rattle.rules.specs.Record.{moduleOf}
-use Rattle.rules.specs.Module.{powered, powerResult}
-use Rattle.module.proofs.Outcomes.{as-changed, as-left}
+use Rattle.rules.{specs.With.{_with-transfer_, _with-security_}, specs.Record.moduleOf, specs.Module.{powered, powerResult}}
+use Rattle.module.proofs.{Outcomes.{as-changed, as-left}, power.Statement.statement}
 use borrow.Author.Needs.{needs}
-use Rattle.module.proofs.power.Statement.{statement}
 use Rattle.module.proofs.power.Tie as tie
 
 enum-told : tie.Need-enum-told

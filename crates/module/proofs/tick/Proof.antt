@@ -1,16 +1,11 @@
 -- `module::tick` meets its contract. The verdict settles the result of the definition (proofs/Outcomes.antt).
 -- Assumes nothing.
-use mathlib.Core.Path.{sym, _∙_, ap}
-use mathlib.Core.List.{[]}
+use mathlib.Core.{Path.{sym, _∙_, ap}, List.[]}
 use native.Mathlib.Omega.{arith}
-use Rattle.rules.specs.With.{_with-transfer_}
-use Rattle.rules.specs.Record.{moduleOf}
-use Rattle.rules.specs.Module.{ticked, tickResult}
-use Rattle.rules.specs.declared.Transfer.{Transfer}
+use Rattle.rules.{specs.With._with-transfer_, specs.Record.moduleOf, specs.Module.{ticked, tickResult}, specs.declared.Transfer.Transfer}
 use Rattle.rules.proofs.page.Past.{event-passed, not-by-event, received-most}
-use Rattle.module.proofs.Outcomes.{as-changed, as-left}
+use Rattle.module.proofs.{Outcomes.{as-changed, as-left}, tick.Statement.statement}
 use borrow.Author.Needs.{needs}
-use Rattle.module.proofs.tick.Statement.{statement}
 use Rattle.module.proofs.tick.Tie as tie
 
 enum-told : tie.Need-enum-told

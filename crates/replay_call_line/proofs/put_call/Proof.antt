@@ -2,8 +2,7 @@
 use native.Mathlib.Omega.{arith}
 use borrow.Author.Needs.{needs}
 use Rattle.text.proofs.Writing.{and-then, rewrote}
-use Rattle.replay_call_line.proofs.CallLine.{line-of-0, line-of-other}
-use Rattle.replay_call_line.proofs.put_call.Statement.{statement}
+use Rattle.replay_call_line.proofs.{CallLine.{line-of-0, line-of-other}, put_call.Statement.statement}
 use Rattle.replay_call_line.proofs.put_call.Tie as tie
 
 of-0 : tie.Need-returns

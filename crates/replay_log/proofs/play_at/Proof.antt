@@ -6,8 +6,7 @@ use lib.ListN.{length}
 use borrow.Author.Needs.{needs}
 use Rattle.log_reader.specs.declared.Found.the-variants.{Short, End}
 use Rattle.rules.specs.Record.{moduleOf}
-use Rattle.replay_log.proofs.Found.{record-within, record-says, as-found, as-record, nothing-written}
-use Rattle.replay_log.proofs.play_at.Statement.{statement}
+use Rattle.replay_log.proofs.{Found.{record-within, record-says, as-found, as-record, nothing-written}, play_at.Statement.statement}
 use Rattle.replay_log.proofs.play_at.Tie as tie
 
 start-fits : tie.Need-mul-start

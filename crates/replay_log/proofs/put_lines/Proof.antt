@@ -5,10 +5,8 @@ use Prim.Native.Nat.{ℕ, _≤_, _<_, _*_, _-_}
 use native.Mathlib.Omega.{arith}
 use borrow.Author.Needs.{needs}
 use lib.ListN.{length}
-use Rattle.rules.specs.Log.{recordsIn}
-use Rattle.rules.specs.Record.{moduleOf}
-use Rattle.replay_log.proofs.Turns.{FirstPlayed, none-yet, one-more}
-use Rattle.replay_log.proofs.put_lines.Statement.{statement}
+use Rattle.rules.{specs.Log.recordsIn, specs.Record.moduleOf}
+use Rattle.replay_log.proofs.{Turns.{FirstPlayed, none-yet, one-more}, put_lines.Statement.statement}
 use Rattle.replay_log.proofs.put_lines.Tie as tie
 
 abbrev Inv-loop : tie.InvT-loop

@@ -1,8 +1,7 @@
 -- `replay_play::play_call` meets its contract: the module's promise gives reply, record and area, whatever the answer buffer holds, and the line is the reply's.
 use borrow.Author.Needs.{needs}
 use Rattle.rules.specs.Record.{moduleOf}
-use Rattle.replay_play.proofs.Steps.{call-replayed}
-use Rattle.replay_play.proofs.play_call.Statement.{statement}
+use Rattle.replay_play.proofs.{Steps.call-replayed, play_call.Statement.statement}
 use Rattle.replay_play.proofs.play_call.Tie as tie
 
 played : tie.Need-returns

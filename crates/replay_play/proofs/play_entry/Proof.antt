@@ -2,10 +2,8 @@
 use mathlib.Core.Path.{refl}
 use native.Mathlib.Omega.{arith}
 use borrow.Author.Needs.{needs}
-use Rattle.rules.specs.Record.{moduleOf}
-use Rattle.rules.specs.declared.Entry.the-variants.{Tick, Power, Bad}
-use Rattle.replay_play.proofs.Steps.{as-entry, as-call, request-within}
-use Rattle.replay_play.proofs.play_entry.Statement.{statement}
+use Rattle.rules.{specs.Record.moduleOf, specs.declared.Entry.the-variants.{Tick, Power, Bad}}
+use Rattle.replay_play.proofs.{Steps.{as-entry, as-call, request-within}, play_entry.Statement.statement}
 use Rattle.replay_play.proofs.play_entry.Tie as tie
 
 within : tie.Need-part-play-call-end

@@ -1,8 +1,7 @@
 -- `replay_play::play_tick` meets its contract: the module's promise gives the record, and the line is written beside it.
 use native.Mathlib.Omega.{arith}
 use borrow.Author.Needs.{needs}
-use Rattle.replay_play.proofs.Steps.{event-replayed}
-use Rattle.replay_play.proofs.play_tick.Statement.{statement}
+use Rattle.replay_play.proofs.{Steps.event-replayed, play_tick.Statement.statement}
 use Rattle.replay_play.proofs.play_tick.Tie as tie
 
 played : tie.Need-returns

@@ -2,10 +2,7 @@
 -- Assumes nothing.
 use mathlib.Core.Path.{ap}
 use native.Mathlib.Omega.{arith}
-use Rattle.rules.specs.Bytes.{zeros}
-use Rattle.rules.specs.Numbers.{areaSize}
-use Rattle.rules.specs.declared.Device.{Device}
-use Rattle.rules.specs.Record.{moduleOf}
+use Rattle.rules.{specs.Bytes.zeros, specs.Numbers.areaSize, specs.declared.Device.Device, specs.Record.moduleOf}
 use borrow.Author.Needs.{needs}
 use Rattle.replays.proofs.begin.Statement.{statement}
 use Rattle.replays.proofs.begin.Tie as tie

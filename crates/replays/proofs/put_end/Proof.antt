@@ -1,8 +1,6 @@
 -- `replays::put_end` meets its contract: the line of a tail, if there is one, and the last line after it.
 -- Assumes nothing.
-use mathlib.Core.Path.{sym, ap}
-use mathlib.Core.Bool.{Bool}
-use mathlib.Core.List.{_++_}
+use mathlib.Core.{Path.{sym, ap}, Bool.Bool, List._++_}
 use native.Mathlib.Omega.{arith}
 use Rattle.rules.specs.Replay.{tailLine, lastLine}
 use Rattle.text.proofs.Writing.{and-then, rewrote}

@@ -1,26 +1,15 @@
 -- Numbers are never given again: no event lowers the contexts given out, and an accepted Start answers the next number.
 -- Assumes nothing.
 use Prim.Native.Nat.{ℕ, _+_, _≤_}
-use mathlib.Core.Path.{_≡_, sym, _∙_, subst}
-use mathlib.Core.List.{[], _∷_, _++_}
+use mathlib.Core.{Path.{_≡_, sym, _∙_, subst}, List.{[], _∷_, _++_}, Bool.Bool}
 use native.Mathlib.Omega.{arith}
-use Rattle.rules.specs.Tests.{_=?_}
-use Rattle.rules.specs.Transfer.{TransferCall, GetFwInfo, Start, Send, Finish, Query}
-use Rattle.rules.specs.Record.{Module, given}
-use Rattle.rules.specs.History.{Plays, end, All}
-use Rattle.rules.specs.Transfers.{machine, Exchange, History, Started, kindOf}
-use Rattle.rules.specs.Demand3.{Sound, NeverAgain}
-use Rattle.rules.specs.declared.Transfer.{Transfer}
-use Rattle.rules.proofs.histories.Joining.{plays-right}
-use Rattle.rules.proofs.page.Choice.{if-both}
-use Rattle.rules.proofs.page.Split.{TransferPart, partOf, partChange, partVerdict, partNext, Act, Transfers, act, answers, nexts, inner, givenIn}
-use Rattle.rules.proofs.page.Through.{kind-act}
-use Rattle.rules.proofs.page.Facts.{changes, good}
-use Rattle.rules.proofs.histories.KindOf.{StartAct, started-act, good-accepted, given-number}
-use Rattle.rules.proofs.histories.Gate.{Remains, inwards, sound-inner, keeps-end}
-use Rattle.rules.proofs.page.Invariant.{Invariant, by-tick}
-use mathlib.Core.Bool.{Bool}
+use Rattle.rules.specs.{Tests._=?_, Transfer.{TransferCall, GetFwInfo, Start, Send, Finish, Query}, Record.{Module, given}, History.{Plays, end, All}}
+use Rattle.rules.specs.{Transfers.{machine, Exchange, History, Started, kindOf}, Demand3.{Sound, NeverAgain}, declared.Transfer.Transfer}
 use Rattle.rules.specs.declared.Verdict.the-variants.{Accepted}
+use Rattle.rules.proofs.{histories.Joining.plays-right, page.Choice.if-both}
+use Rattle.rules.proofs.page.Split.{TransferPart, partOf, partChange, partVerdict, partNext, Act, Transfers, act, answers, nexts, inner, givenIn}
+use Rattle.rules.proofs.{page.Through.kind-act, page.Facts.{changes, good}, histories.KindOf.{StartAct, started-act, good-accepted, given-number}}
+use Rattle.rules.proofs.{histories.Gate.{Remains, inwards, sound-inner, keeps-end}, page.Invariant.{Invariant, by-tick}}
 
 -- no event takes a number back
 abbrev AtLeast : (c : ℕ) → TransferPart → Type 0

@@ -1,32 +1,28 @@
 -- Demand 3: the theorem, and what of it holds from every sound module.
 -- Assumes nothing.
-use mathlib.Core.Path.{_≡_, refl, sym, _∙_, ap, subst}
-use Rattle.rules.specs.Record.{Module}
-use Rattle.rules.specs.Module.{Event, tick}
-use Rattle.rules.specs.History.{historyOf, end, All}
-use Rattle.rules.specs.Transfers.{machine, History, none}
+use mathlib.Core.{Path.{_≡_, refl, sym, _∙_, ap, subst}, List.[]}
+use Rattle.rules.specs.{Record.Module, Module.{Event, tick}, History.{historyOf, end, All}, Transfers.{machine, History, none}}
 use Rattle.rules.specs.Demand3.{freshWith, struck, StrikeOut, EachFromOneHost, Stages, Due, StagedExactly, StagedAsSent, Demand3, DemandOfWhatRemains, Sound, FromAnywhere, WithAnyHosts, DemandFromAnywhere, DemandWithAnyHosts}
-use Rattle.rules.proofs.histories.Joining.{plays-log}
-use Rattle.rules.proofs.histories.Struck.{strike-out}
-use Rattle.rules.proofs.page.Split.{partOf, partTick, inner}
-use Rattle.rules.proofs.page.Possible.{sound-fresh, sound-through}
-use Rattle.rules.proofs.histories.Gate.{Remains, Inward, inwards, sound-end}
-use Rattle.rules.proofs.histories.Moved.{move}
-use Rattle.rules.proofs.histories.Unbroken.{all-moved}
-use Rattle.rules.proofs.histories.Honest.{all-remains, honest-struck}
-use Rattle.rules.proofs.histories.Order.{orders}
-use Rattle.rules.proofs.histories.Turn.{one-host, hosts-fresh}
-use Rattle.rules.proofs.histories.Pieces.{received, own-pieces}
-use Rattle.rules.proofs.histories.Stage.{Ripe, stages-ripe, ripe-stages, staged-once}
-use Rattle.rules.proofs.histories.Due.{bytesOf, ripe-due, due-ripe, due-sent}
-use Rattle.rules.proofs.histories.Waits.{one-waits}
-use Rattle.rules.proofs.histories.Again.{never-again}
-use mathlib.Core.List.{[]}
+use Rattle.rules.proofs.{histories.Joining.plays-log, histories.Struck.strike-out, page.Split.{partOf, partTick, inner}}
+use Rattle.rules.proofs.{page.Possible.{sound-fresh, sound-through}, histories.Gate.{Remains, Inward, inwards, sound-end}, histories.Moved.move}
+use Rattle.rules.proofs.{histories.Unbroken.all-moved, histories.Honest.{all-remains, honest-struck}, histories.Order.orders}
+use Rattle.rules.proofs.{histories.Turn.{one-host, hosts-fresh}, histories.Pieces.{received, own-pieces}}
+use Rattle.rules.proofs.{histories.Stage.{Ripe, stages-ripe, ripe-stages, staged-once}, histories.Due.{bytesOf, ripe-due, due-ripe, due-sent}}
+use Rattle.rules.proofs.{histories.Waits.one-waits, histories.Again.never-again}
 
 -- From every sound module, and with hosts that use any context.
 pub from-anywhere : DemandFromAnywhere
 from-anywhere m w events =
-    record { strike-out = st; move = move m (struck h) w (st .plays) (all-remains h); all-moved = all-moved m (struck h) w (st .plays) (all-remains h); staged-once = staged-once m h w; one-waits = one-waits m (struck h) w (st .plays) (all-remains h); never-again = never-again m (struck h) w (st .plays) (all-remains h) }
+    record {
+      strike-out = st;
+      move = move m (struck h) w (st .plays) (all-remains h);
+      all-moved = all-moved m (struck h) w (st .plays)
+          (all-remains h);
+      staged-once = staged-once m h w;
+      one-waits = one-waits m (struck h) w (st .plays) (all-remains h);
+      never-again = never-again m
+          (struck h) w (st .plays) (all-remains h);
+    }
   where
     h : History
     h = historyOf machine m events

@@ -1,33 +1,19 @@
 -- Staging, both ways: a tick stages a version exactly when the history ends with a good image's Finish and seven ticks.
 -- Assumes nothing.
 use Prim.Native.Nat.{ℕ, _+_, _-_, _≤_, _<_}
-use mathlib.Core.Path.{_≡_, refl, sym, _∙_, ap, subst}
-use mathlib.Core.Bool.{Bool, true, false}
-use mathlib.Core.List.{[], List, _∷_, _++_, append-assoc, append-nil}
+use mathlib.Core.{Path.{_≡_, refl, sym, _∙_, ap, subst}, Bool.{Bool, true, false}, List.{[], List, _∷_, _++_, append-assoc, append-nil}}
 use native.Mathlib.Omega.{arith}
 use borrow.Author.Tests.{eqb-true}
-use Rattle.rules.specs.Tests.{if_then_else_, _=?_}
-use Rattle.rules.specs.Numbers.{verification}
-use Rattle.rules.specs.With.{_with-ticks_, _with-phase_, _with-received_}
-use Rattle.rules.specs.Record.{_is_, Module}
-use Rattle.rules.specs.Image.{imageOf}
-use Rattle.rules.specs.Transfer.{GetFwInfo, Start, Send, Finish, Query, receivedBytes}
-use Rattle.rules.specs.History.{Plays, end, All, afterExchange}
+use Rattle.rules.specs.{Tests.{if_then_else_, _=?_}, Numbers.verification, With.{_with-ticks_, _with-phase_, _with-received_}, Record.{_is_, Module}, Image.imageOf}
+use Rattle.rules.specs.{Transfer.{GetFwInfo, Start, Send, Finish, Query, receivedBytes}, History.{Plays, end, All, afterExchange}}
 use Rattle.rules.specs.Transfers.{Answer, Exchange, History, Kind, Finished, Ticked, Other, kindOf, Open, none, by, bytesSoFar, ContextIs, InOrder, AllInOrder, openNext}
-use Rattle.rules.specs.Sends.{ownSends, pieces, FinishedIn, tickCount, ticksIn, powerCount, powerCycles}
-use Rattle.rules.specs.Demand3.{remains, Sound, Due}
-use Rattle.rules.specs.declared.Phase.{Phase}
-use Rattle.rules.specs.declared.Phase.the-variants.{Idle, Verifying}
-use Rattle.rules.specs.declared.Transfer.{Transfer}
+use Rattle.rules.specs.{Sends.{ownSends, pieces, FinishedIn, tickCount, ticksIn, powerCount, powerCycles}, Demand3.{remains, Sound, Due}, declared.Phase.Phase}
+use Rattle.rules.specs.{declared.Phase.the-variants.{Idle, Verifying}, declared.Transfer.Transfer}
 use Rattle.rules.proofs.histories.Joining.{plays-right, end-join, counted-along, total-join, leads-join, throughout-left, total-none}
 use Rattle.rules.proofs.page.Split.{TransferPart, partOf, Act, Transfers, Others, Ticks, Powers, act, partChange, partNext, partTick, answers, nexts, inner, actKind, _with-part_}
-use Rattle.rules.proofs.page.Through.{kind-act}
-use Rattle.rules.proofs.page.Facts.{never, Kept, accepted-call, changes, send-ok, finish-ok, Tick, calm, counting, good, bad, tick-case}
-use Rattle.rules.proofs.page.Possible.{sound-act}
-use Rattle.rules.proofs.histories.Gate.{Remains}
-use Rattle.rules.proofs.histories.KindOf.{good-accepted, accepted-good, FinishAct, finished-act}
-use Rattle.rules.proofs.histories.Order.{openAtEnd, Fits, goes, orders, chosen, bytes-open}
-use Rattle.rules.proofs.histories.Pieces.{AtFinish, at-finish, Opened, opened}
+use Rattle.rules.proofs.{page.Through.kind-act, page.Facts.{never, Kept, accepted-call, changes, send-ok, finish-ok, Tick, calm, counting, good, bad, tick-case}}
+use Rattle.rules.proofs.{page.Possible.sound-act, histories.Gate.Remains, histories.KindOf.{good-accepted, accepted-good, FinishAct, finished-act}}
+use Rattle.rules.proofs.{histories.Order.{openAtEnd, Fits, goes, orders, chosen, bytes-open}, histories.Pieces.{AtFinish, at-finish, Opened, opened}}
 use Rattle.rules.proofs.histories.Stage.{Ripe, quiet, busy, no-tick}
 
 abbrev pub bytesOf : TransferPart → List ℕ

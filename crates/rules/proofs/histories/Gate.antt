@@ -1,19 +1,10 @@
 -- R numbers are an outer gate: what remains from a sound module plays alike with and without them.
 -- Assumes nothing.
-use mathlib.Core.Path.{_≡_, refl, sym, _∙_, ap, subst}
-use mathlib.Core.Bool.{Bool, true, false, false≢true}
-use mathlib.Core.List.{[], _∷_}
-use Rattle.rules.specs.Record.{Module}
-use Rattle.rules.specs.History.{Plays, end, All, Same, afterExchange}
-use Rattle.rules.specs.Transfers.{Answer, machine, Exchange, History}
-use Rattle.rules.specs.Demand3.{remains, Sound}
-use Rattle.rules.proofs.page.Split.{act, inner, TransferPart, partOf}
-use Rattle.rules.proofs.page.Through.{Through, shut}
+use mathlib.Core.{Path.{_≡_, refl, sym, _∙_, ap, subst}, Bool.{Bool, true, false, false≢true}, List.{[], _∷_}}
+use Rattle.rules.specs.{Record.Module, History.{Plays, end, All, Same, afterExchange}, Transfers.{Answer, machine, Exchange, History}, Demand3.{remains, Sound}}
 use Rattle.rules.specs.Demand1.{bufferTooShort}
-use Rattle.rules.proofs.page.Facts.{Kept}
-use Rattle.rules.proofs.page.Possible.{sound-act, sound-through, sound-next}
-use Rattle.rules.proofs.histories.Joining.{kept-along}
-use Rattle.rules.proofs.page.Invariant.{Invariant, keeps-next}
+use Rattle.rules.proofs.{page.Split.{act, inner, TransferPart, partOf}, page.Through.{Through, shut}, page.Facts.Kept}
+use Rattle.rules.proofs.{page.Possible.{sound-act, sound-through, sound-next}, histories.Joining.kept-along, page.Invariant.{Invariant, keeps-next}}
 
 -- the exchange remains; its answer buffer is long enough
 abbrev pub Remains : Exchange → Type 0

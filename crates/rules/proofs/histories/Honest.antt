@@ -1,33 +1,17 @@
 -- Honest hosts: a Send or a Finish that is served carries a context in its request, which was answered to its host; and what remains is honest too.
 -- Assumes nothing.
 use Prim.Native.Nat.{ℕ, _≤_}
-use mathlib.Core.Path.{_≡_, refl, sym, _∙_}
-use mathlib.Core.Logic.{inl, inr}
-use mathlib.Core.Bool.{Bool, true, false, _&&_}
-use mathlib.Core.List.{[], List, _∷_}
+use mathlib.Core.{Path.{_≡_, refl, sym, _∙_}, Logic.{inl, inr}, Bool.{Bool, true, false, _&&_}, List.{[], List, _∷_}}
 use native.Mathlib.Omega.{arith}
 use lib.ListN.{length}
 use borrow.Author.Tests.{leb-true, eqb-true, not-false}
-use Rattle.rules.specs.Tests.{if_then_else_, _=?_, _≤?_}
-use Rattle.rules.specs.Refusals.{refused?}
-use Rattle.rules.specs.Table.{table, lookUp, rowOf, fits?}
-use Rattle.rules.specs.Transfer.{GetFwInfo, Start, Send, Finish, Query}
-use Rattle.rules.specs.Module.{callOf, Event, call, tick, power}
-use Rattle.rules.specs.History.{All, keep}
-use Rattle.rules.specs.Transfers.{Exchange, History}
-use Rattle.rules.specs.Hosts.{Carries, Uses, AnsweredTo, HonestAfter, Honest}
-use Rattle.rules.specs.Demand3.{remains, struck}
-use Rattle.rules.specs.declared.Verdict.{Verdict}
-use Rattle.rules.specs.declared.Verdict.the-variants.{Accepted, Refused}
-use Rattle.rules.specs.declared.Row.{Row}
-use Rattle.rules.specs.declared.Function.{Function}
+use Rattle.rules.specs.{Tests.{if_then_else_, _=?_, _≤?_}, Refusals.refused?, Table.{table, lookUp, rowOf, fits?}, Transfer.{GetFwInfo, Start, Send, Finish, Query}}
+use Rattle.rules.specs.{Module.{callOf, Event, call, tick, power}, History.{All, keep}, Transfers.{Exchange, History}}
+use Rattle.rules.specs.{Hosts.{Carries, Uses, AnsweredTo, HonestAfter, Honest}, Demand3.{remains, struck}, declared.Verdict.Verdict}
+use Rattle.rules.specs.{declared.Verdict.the-variants.{Accepted, Refused}, declared.Row.Row, declared.Function.Function}
+use Rattle.rules.proofs.{page.Choice.{and-true, if-both}, page.Split.{Act, Transfers, Others, Ticks, Powers, act, actOf, unserved?, misfit?}}
+use Rattle.rules.proofs.{page.Through.kind-act, page.Facts.never, histories.KindOf.started-act, histories.Gate.Remains}
 use Rattle.rules.specs.declared.Function.the-variants as Function′
-use Rattle.rules.proofs.page.Choice.{and-true, if-both}
-use Rattle.rules.proofs.page.Split.{Act, Transfers, Others, Ticks, Powers, act, actOf, unserved?, misfit?}
-use Rattle.rules.proofs.page.Through.{kind-act}
-use Rattle.rules.proofs.page.Facts.{never}
-use Rattle.rules.proofs.histories.KindOf.{started-act}
-use Rattle.rules.proofs.histories.Gate.{Remains}
 
 -- how long a request must be to carry a context
 abbrev needs : Function → ℕ

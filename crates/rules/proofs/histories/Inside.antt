@@ -1,35 +1,20 @@
 -- The move: between a transfer's Start and its accepted Finish stand its own Sends, and exchanges that may go before its Start.
 -- Assumes nothing.
 use Prim.Native.Nat.{ℕ, _+_, _≤_}
-use mathlib.Core.Path.{_≡_, refl, sym, _∙_, ap, subst}
-use mathlib.Core.Logic.{_⊎_, inl, inr}
-use mathlib.Core.Bool.{true, false, Bool}
-use mathlib.Core.List.{[], _∷_, _++_}
+use mathlib.Core.{Path.{_≡_, refl, sym, _∙_, ap, subst}, Logic.{_⊎_, inl, inr}, Bool.{true, false, Bool}, List.{[], _∷_, _++_}}
 use native.Mathlib.Omega.{arith}
 use borrow.Author.Tests.{eq-eqb}
-use Rattle.rules.specs.Tests.{_=?_}
-use Rattle.rules.specs.Record.{_is_, current, Module}
-use Rattle.rules.specs.Transfer.{TransferCall, GetFwInfo, Start, Send, Finish, Query, finishChange}
-use Rattle.rules.specs.Module.{Event}
-use Rattle.rules.specs.History.{Plays, end, All, Same}
-use Rattle.rules.specs.Transfers.{Answer, Exchange, History, Started, Finished, kindOf}
-use Rattle.rules.specs.Sends.{isSendOf, ownSend, ownSends, others}
-use Rattle.rules.specs.Demand3.{remains, Sound}
-use Rattle.rules.specs.declared.Verdict.the-variants.{Accepted}
-use Rattle.rules.specs.declared.Phase.{Phase}
-use Rattle.rules.specs.declared.Phase.the-variants.{Receiving, Verifying}
-use Rattle.rules.specs.declared.Transfer.{Transfer}
-use Rattle.rules.proofs.page.Choice.{if-both}
-use Rattle.rules.proofs.histories.Joining.{all-left, plays-left, plays-right, same-cons, same-trans}
+use Rattle.rules.specs.{Tests._=?_, Record.{_is_, current, Module}, Transfer.{TransferCall, GetFwInfo, Start, Send, Finish, Query, finishChange}, Module.Event}
+use Rattle.rules.specs.{History.{Plays, end, All, Same}, Transfers.{Answer, Exchange, History, Started, Finished, kindOf}}
+use Rattle.rules.specs.{Sends.{isSendOf, ownSend, ownSends, others}, Demand3.{remains, Sound}, declared.Verdict.the-variants.Accepted, declared.Phase.Phase}
+use Rattle.rules.specs.{declared.Phase.the-variants.{Receiving, Verifying}, declared.Transfer.Transfer}
+use Rattle.rules.proofs.{page.Choice.if-both, histories.Joining.{all-left, plays-left, plays-right, same-cons, same-trans}}
 use Rattle.rules.proofs.histories.Swapping.{Either, gather, sink, frees}
 use Rattle.rules.proofs.page.Split.{TransferPart, partOf, Act, Transfers, Others, Ticks, Powers, act, partVerdict, partChange, partAnswer, answers, nexts, inner, actKind, givenIn, partPower, _with-part_}
-use Rattle.rules.proofs.page.Through.{kind-act}
-use Rattle.rules.proofs.page.Facts.{never, Kept, accepted-call, changes, StartOk, start-ok, send-ok, finish-ok, FinishOk, query-ok, good}
-use Rattle.rules.proofs.page.Possible.{sound-act}
-use Rattle.rules.proofs.histories.Gate.{Remains, keeps-end}
+use Rattle.rules.proofs.{page.Through.kind-act, page.Facts.{never, Kept, accepted-call, changes, StartOk, start-ok, send-ok, finish-ok, FinishOk, query-ok, good}}
+use Rattle.rules.proofs.{page.Possible.sound-act, histories.Gate.{Remains, keeps-end}}
 use Rattle.rules.proofs.histories.KindOf.{good-accepted, accepted-good, StartAct, started-act, FinishAct, finished-act, given-number}
-use Rattle.rules.proofs.histories.Swap.{OwnAct, FreeAct, Own, Free, swaps, still}
-use Rattle.rules.proofs.page.Invariant.{Invariant, by-tick}
+use Rattle.rules.proofs.{histories.Swap.{OwnAct, FreeAct, Own, Free, swaps, still}, page.Invariant.{Invariant, by-tick}}
 
 -- The transfer with the context c is over: no event brings it back
 pub record Gone (c : ℕ) (s : TransferPart) : Type 0 where

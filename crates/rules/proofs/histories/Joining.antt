@@ -2,9 +2,7 @@
 -- Assumes nothing.
 use Prim.Native.Nat.{ℕ, _+_}
 use native.Mathlib.Omega.{arith}
-use mathlib.Core.Path.{_≡_, refl, _∙_, subst}
-use mathlib.Core.Bool.{Bool, true, false, not}
-use mathlib.Core.List.{[], List, _∷_, _++_}
+use mathlib.Core.{Path.{_≡_, refl, _∙_, subst}, Bool.{Bool, true, false, not}, List.{[], List, _∷_, _++_}}
 use Rattle.rules.specs.History.{Machine, ExchangeOf, total, leadsTo, Throughout, Plays, end, historyOf, keep, only, except, All, Same, afterExchange}
 
 module _ {X : Type 0} (P : X → Type 0) where

@@ -1,19 +1,12 @@
 -- What the kind of an exchange tells of its act, and what an accepted Start's answer carries.
 -- Assumes nothing.
 use Prim.Native.Nat.{ℕ, _+_, _≤_}
-use mathlib.Core.Path.{_≡_, refl, sym, _∙_, ap}
-use mathlib.Core.Bool.{Bool, true, false}
-use mathlib.Core.List.{List, _++_}
+use mathlib.Core.{Path.{_≡_, refl, sym, _∙_, ap}, Bool.{Bool, true, false}, List.{List, _++_}}
 use native.Mathlib.Omega.{arith}
-use Rattle.rules.specs.Tests.{if_then_else_}
-use Rattle.rules.specs.Bytes.{le, numberAt}
-use Rattle.rules.specs.Numbers.{lastContext}
-use Rattle.rules.specs.Refusals.{refused?, statusBytes, answerAfter}
+use Rattle.rules.specs.{Tests.if_then_else_, Bytes.{le, numberAt}, Numbers.lastContext, Refusals.{refused?, statusBytes, answerAfter}}
 use Rattle.rules.specs.Transfer.{TransferCall, GetFwInfo, Start, Send, Finish, Query, transferAnswer}
-use Rattle.rules.specs.Transfers.{Answer, Kind, Started, Sent, Finished, Ticked, Powered, Other}
-use Rattle.rules.specs.declared.Refusal.the-variants.{R, Status}
-use Rattle.rules.specs.declared.Verdict.{Verdict}
-use Rattle.rules.specs.declared.Verdict.the-variants.{Accepted, Refused}
+use Rattle.rules.specs.{Transfers.{Answer, Kind, Started, Sent, Finished, Ticked, Powered, Other}, declared.Refusal.the-variants.{R, Status}}
+use Rattle.rules.specs.{declared.Verdict.Verdict, declared.Verdict.the-variants.{Accepted, Refused}}
 use Rattle.rules.proofs.page.Split.{TransferPart, Act, Transfers, Others, Ticks, Powers, answerBy, partVerdict, partAnswer, actKind, givenIn}
 use Rattle.rules.proofs.page.Facts.{never, replies, start-ok}
 

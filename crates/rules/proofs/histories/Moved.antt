@@ -1,22 +1,14 @@
 -- The move, from every sound module, for every finished transfer of what remains; and for all of them at once.
 -- Assumes nothing.
 use Prim.Native.Nat.{ℕ}
-use mathlib.Core.Path.{_≡_, refl, sym, ap, subst}
-use mathlib.Core.Logic.{_⊎_, inl, inr}
-use mathlib.Core.Bool.{true, false, false≢true}
-use mathlib.Core.List.{[], _∷_, _++_}
-use Rattle.rules.specs.Transfer.{GetFwInfo, Start, Send, Finish, Query}
-use Rattle.rules.specs.Record.{Module}
-use Rattle.rules.specs.History.{Plays, end, All, Same}
+use mathlib.Core.{Path.{_≡_, refl, sym, ap, subst}, Logic.{_⊎_, inl, inr}, Bool.{true, false, false≢true}, List.{[], _∷_, _++_}}
+use Rattle.rules.specs.{Transfer.{GetFwInfo, Start, Send, Finish, Query}, Record.Module, History.{Plays, end, All, Same}}
 use Rattle.rules.specs.Transfers.{Answer, machine, Exchange, History, Kind, Started, Sent, Finished, Ticked, Powered, Other, kindOf}
-use Rattle.rules.specs.Sends.{isSendOf, ownSend, ownSends, others, FinishedIn}
-use Rattle.rules.specs.Moves.{moved, ByMoves, as-it-is, one-more, isFinishOf, itsFinish}
+use Rattle.rules.specs.{Sends.{isSendOf, ownSend, ownSends, others, FinishedIn}, Moves.{moved, ByMoves, as-it-is, one-more, isFinishOf, itsFinish}}
 use Rattle.rules.specs.Demand3.{Sound, Move}
 use Rattle.rules.proofs.histories.Joining.{all-left, all-right, all-join, all-only, all-except, plays-left, plays-right, same-under}
-use Rattle.rules.proofs.page.Split.{Act, Transfers, Others, Ticks, Powers, act, inner, actKind}
-use Rattle.rules.proofs.page.Through.{kind-act}
-use Rattle.rules.proofs.histories.Gate.{Remains, Roomy, Inward, inwards, sound-inner, same-outward}
-use Rattle.rules.proofs.histories.Swap.{FreeAct, Free}
+use Rattle.rules.proofs.{page.Split.{Act, Transfers, Others, Ticks, Powers, act, inner, actKind}, page.Through.kind-act}
+use Rattle.rules.proofs.{histories.Gate.{Remains, Roomy, Inward, inwards, sound-inner, same-outward}, histories.Swap.{FreeAct, Free}}
 use Rattle.rules.proofs.histories.Inside.{Within, Begun, begun, inside, move-here}
 
 -- what holds of every exchange holds of every exchange after a move

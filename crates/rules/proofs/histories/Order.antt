@@ -1,37 +1,19 @@
 -- One after another, whoever calls: which transfer is open, as the history tells it, is what the record says, and its bytes are those received.
 -- Assumes nothing.
 use Prim.Native.Nat.{ℕ, _+_, _≤_}
-use mathlib.Core.Path.{_≡_, refl, sym, _∙_, ap, subst}
-use mathlib.Core.Bool.{false}
-use mathlib.Core.List.{[], List, _∷_, _++_, append-assoc}
+use mathlib.Core.{Path.{_≡_, refl, sym, _∙_, ap, subst}, Bool.false, List.{[], List, _∷_, _++_, append-assoc}}
 use native.Mathlib.Omega.{arith}
-use lib.ListN.{length, take, drop, length-append, length-take}
-use lib.Seq.{take-at}
-use Rattle.rules.specs.Tests.{if_then_else_, _=?_}
-use Rattle.rules.specs.Bytes.{numberAt, splice}
-use Rattle.rules.specs.Numbers.{areaSize}
-use Rattle.rules.specs.Record.{_is_, current, Module, given}
-use Rattle.rules.specs.Refusals.{refused?}
-use Rattle.rules.specs.Transfer.{TransferCall, GetFwInfo, Start, Send, Finish, Query, receivedBytes}
-use Rattle.rules.specs.History.{Plays, end, All, leadsTo}
+use lib.{ListN.{length, take, drop, length-append, length-take}, Seq.take-at}
+use Rattle.rules.specs.{Tests.{if_then_else_, _=?_}, Bytes.{numberAt, splice}, Numbers.areaSize, Record.{_is_, current, Module, given}, Refusals.refused?}
+use Rattle.rules.specs.{Transfer.{TransferCall, GetFwInfo, Start, Send, Finish, Query, receivedBytes}, History.{Plays, end, All, leadsTo}}
 use Rattle.rules.specs.Transfers.{Answer, Exchange, History, Kind, Started, Sent, Finished, Ticked, Powered, Other, kindOf, Open, none, by, bytesSoFar, withPiece, openAfter, ContextIs, InOrder, AllInOrder, openNext}
-use Rattle.rules.specs.Hosts.{AnsweredTo}
-use Rattle.rules.specs.Demand3.{remains, Sound}
-use Rattle.rules.specs.declared.Phase.{Phase}
-use Rattle.rules.specs.declared.Phase.the-variants.{Receiving, Verifying}
+use Rattle.rules.specs.{Hosts.AnsweredTo, Demand3.{remains, Sound}, declared.Phase.Phase, declared.Phase.the-variants.{Receiving, Verifying}}
 use Rattle.rules.specs.declared.Transfer.{Transfer}
 use Rattle.rules.proofs.page.Choice.{if-both}
 use Rattle.rules.proofs.page.Split.{TransferPart, partOf, Act, Transfers, Others, Ticks, Powers, act, partChange, partNext, partTick, answers, nexts, inner, actKind, givenIn}
-use Rattle.rules.proofs.page.Through.{kind-act}
-use Rattle.rules.proofs.page.Facts.{never, Kept, accepted-call, changes, was-served, SendOk, send-ok, finish-ok}
-use Rattle.rules.proofs.page.Possible.{sound-act}
-use Rattle.rules.proofs.histories.Gate.{Remains}
-use Rattle.rules.proofs.histories.KindOf.{accepted-good, NoStart}
-use Rattle.rules.proofs.histories.Swap.{still}
-use Rattle.rules.proofs.histories.Inside.{Begun, begun}
-use Rattle.rules.proofs.histories.Honest.{UsesAct}
-use Rattle.rules.proofs.page.Invariant.{by-tick}
-use Rattle.rules.proofs.page.Keeps.{tick-given}
+use Rattle.rules.proofs.{page.Through.kind-act, page.Facts.{never, Kept, accepted-call, changes, was-served, SendOk, send-ok, finish-ok}, page.Possible.sound-act}
+use Rattle.rules.proofs.{histories.Gate.Remains, histories.KindOf.{accepted-good, NoStart}, histories.Swap.still, histories.Inside.{Begun, begun}}
+use Rattle.rules.proofs.{histories.Honest.UsesAct, page.Invariant.by-tick, page.Keeps.tick-given}
 
 -- the transfer with this context is receiving, and has these bytes
 pub record Holding (context : ℕ) (bytes : List ℕ) (s : TransferPart) : Type 0 where

@@ -1,23 +1,14 @@
 -- At a transfer's Finish the received bytes are its own pieces, all from one host; and which Start and Sends an open transfer has.
 -- Assumes nothing.
 use Prim.Native.Nat.{ℕ}
-use mathlib.Core.Path.{_≡_, refl, sym, _∙_, ap, subst}
-use mathlib.Core.Logic.{_⊎_, inl, inr}
-use mathlib.Core.Bool.{Bool, true, false≢true}
-use mathlib.Core.List.{[], List, _∷_, _++_, append-assoc, append-nil}
+use mathlib.Core.{Path.{_≡_, refl, sym, _∙_, ap, subst}, Logic.{_⊎_, inl, inr}, Bool.{Bool, true, false≢true}, List.{[], List, _∷_, _++_, append-assoc, append-nil}}
 use native.Mathlib.Omega.{arith}
 use borrow.Author.Tests.{eq-eqb}
-use Rattle.rules.specs.Transfer.{receivedBytes}
-use Rattle.rules.specs.Record.{Module}
-use Rattle.rules.specs.History.{Plays, end, All, keep}
+use Rattle.rules.specs.{Transfer.receivedBytes, Record.Module, History.{Plays, end, All, keep}}
 use Rattle.rules.specs.Transfers.{machine, Exchange, History, Kind, Started, Sent, Finished, Ticked, Powered, Other, kindOf, Open, none, by, bytesSoFar, openAfter, InOrder, AllInOrder, ByStarter, AllByStarter, openNext}
-use Rattle.rules.specs.Sends.{isSendOf, ownSends, pieceOf, pieces, SentBy, FinishedIn}
-use Rattle.rules.specs.Demand3.{Sound, Received, OwnPieces}
-use Rattle.rules.proofs.histories.Joining.{all-left, plays-left, plays-right, leads-join, throughout-left, throughout-right}
-use Rattle.rules.proofs.page.Split.{partOf, inner}
-use Rattle.rules.proofs.histories.Gate.{Remains, inwards}
-use Rattle.rules.proofs.histories.Inside.{Within, finish-at}
-use Rattle.rules.proofs.histories.Moved.{between-within, free-of}
+use Rattle.rules.specs.{Sends.{isSendOf, ownSends, pieceOf, pieces, SentBy, FinishedIn}, Demand3.{Sound, Received, OwnPieces}}
+use Rattle.rules.proofs.{histories.Joining.{all-left, plays-left, plays-right, leads-join, throughout-left, throughout-right}, page.Split.{partOf, inner}}
+use Rattle.rules.proofs.{histories.Gate.{Remains, inwards}, histories.Inside.{Within, finish-at}, histories.Moved.{between-within, free-of}}
 use Rattle.rules.proofs.histories.Order.{openAtEnd, Fits, bytes-open, fits-at}
 
 -- an own Send adds its piece; one that may move adds nothing

@@ -1,39 +1,20 @@
 -- What stages an image: only a tick, the eighth after a good image's Finish; and Staged stays until a power cycle.
 -- Assumes nothing.
 use Prim.Native.Nat.{ℕ, zero, suc, _≤_}
-use mathlib.Core.Path.{_≡_, refl, sym, _∙_, ap}
-use mathlib.Core.Logic.{_⊎_, inl, inr}
-use mathlib.Core.Bool.{Bool, true, false, _||_, _&&_}
-use mathlib.Core.List.{List, _∷_}
+use mathlib.Core.{Path.{_≡_, refl, sym, _∙_, ap}, Logic.{_⊎_, inl, inr}, Bool.{Bool, true, false, _||_, _&&_}, List.{List, _∷_}}
 use native.Mathlib.Omega.{arith}
 use borrow.Author.Tests.{eqb-true, eq-eqb}
-use Rattle.rules.specs.Tests.{if_then_else_, _=?_}
-use Rattle.rules.specs.Record.{_is_, Module}
-use Rattle.rules.specs.Image.{imageOf}
-use Rattle.rules.specs.Refusals.{refused?}
-use Rattle.rules.specs.Table.{rowOf}
+use Rattle.rules.specs.{Tests.{if_then_else_, _=?_}, Record.{_is_, Module}, Image.imageOf, Refusals.refused?, Table.rowOf}
 use Rattle.rules.specs.Transfer.{TransferCall, GetFwInfo, Start, Send, Finish, Query, receivedBytes}
-use Rattle.rules.specs.Module.{Call, OnMask, OnThresholds, OnTransfer, OnSecurity, OnNothing, Event, call, tick, power, callIn}
-use Rattle.rules.specs.History.{end, afterExchange}
+use Rattle.rules.specs.{Module.{Call, OnMask, OnThresholds, OnTransfer, OnSecurity, OnNothing, Event, call, tick, power, callIn}, History.{end, afterExchange}}
 use Rattle.rules.specs.Transfers.{Answer, machine, Exchange, History, Kind, Started, Sent, Finished, Other, callKind, kindOf}
-use Rattle.rules.specs.Sends.{tickCount, powerCount, powerCycles}
-use Rattle.rules.specs.Demand3.{Sound, stagedWith, Stages, StagedOnce}
-use Rattle.rules.specs.declared.Verdict.the-variants.{Accepted}
-use Rattle.rules.specs.declared.Image.the-variants.{Good, Bad}
-use Rattle.rules.specs.declared.Phase.{Phase}
-use Rattle.rules.specs.declared.Phase.the-variants.{Receiving, Verifying, Staged}
-use Rattle.rules.specs.declared.Transfer.{Transfer}
-use Rattle.rules.specs.Beside.{TakenOver}
-use Rattle.rules.proofs.page.Choice.{if-both, and-true}
-use Rattle.rules.proofs.histories.Joining.{end-join, counted-along, total-none}
+use Rattle.rules.specs.{Sends.{tickCount, powerCount, powerCycles}, Demand3.{Sound, stagedWith, Stages, StagedOnce}, declared.Verdict.the-variants.Accepted}
+use Rattle.rules.specs.{declared.Image.the-variants.{Good, Bad}, declared.Phase.Phase, declared.Phase.the-variants.{Receiving, Verifying, Staged}}
+use Rattle.rules.specs.{declared.Transfer.Transfer, Beside.TakenOver, Demand1.bufferTooShort}
+use Rattle.rules.proofs.{page.Choice.{if-both, and-true}, histories.Joining.{end-join, counted-along, total-none}}
 use Rattle.rules.proofs.page.Split.{TransferPart, partOf, Act, Transfers, Others, Ticks, Powers, act, actOf, unserved?, misfit?, partVerdict, partChange, partNext, partTick, nexts, actKind}
-use Rattle.rules.proofs.page.Through.{shut, kind-act}
-use Rattle.rules.specs.Demand1.{bufferTooShort}
-use Rattle.rules.proofs.page.Facts.{never, is-phase, start-ok, send-ok, finish-ok, Tick, calm, counting, good, bad, tick-case}
-use Rattle.rules.proofs.page.Invariant.{part-when}
-use Rattle.rules.proofs.page.Possible.{sound-through, sound-next}
-use Rattle.rules.proofs.histories.Swap.{still}
-use Rattle.rules.proofs.histories.Gate.{sound-end}
+use Rattle.rules.proofs.{page.Through.{shut, kind-act}, page.Facts.{never, is-phase, start-ok, send-ok, finish-ok, Tick, calm, counting, good, bad, tick-case}}
+use Rattle.rules.proofs.{page.Invariant.part-when, page.Possible.{sound-through, sound-next}, histories.Swap.still, histories.Gate.sound-end}
 
 -- the next tick stages the version
 pub record Ripe (s : TransferPart) (version : ℕ) : Type 0 where

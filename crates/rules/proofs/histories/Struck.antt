@@ -1,19 +1,11 @@
 -- Strike-out: a refused call that is no wrong passphrase leaves record and area, so what remains gives the same answers and the same end.
 -- Assumes nothing.
 use Prim.Native.Nat.{ℕ}
-use mathlib.Core.Path.{_≡_, refl}
-use mathlib.Core.Bool.{false, true≢false}
-use mathlib.Core.List.{List}
-use Rattle.rules.specs.Refusals.{verdict, eventChecks}
-use Rattle.rules.specs.Table.{rowOf}
-use Rattle.rules.specs.Record.{Module}
+use mathlib.Core.{Path.{_≡_, refl}, Bool.{false, true≢false}, List.List}
+use Rattle.rules.specs.{Refusals.{verdict, eventChecks}, Table.rowOf, Record.Module}
 use Rattle.rules.specs.Module.{Call, Event, call, tick, power, outcome, ticked, powered, happened, callChecks, callResult, tickResult, powerResult, callIn, step}
-use Rattle.rules.specs.History.{Plays}
-use Rattle.rules.specs.Transfers.{Answer, machine, History}
-use Rattle.rules.specs.Demand3.{remains, StrikeOut}
-use Rattle.rules.specs.declared.Refusal.the-variants.{R, Status}
-use Rattle.rules.specs.declared.Verdict.{Verdict}
-use Rattle.rules.specs.declared.Verdict.the-variants.{Accepted, Refused}
+use Rattle.rules.specs.{History.Plays, Transfers.{Answer, machine, History}, Demand3.{remains, StrikeOut}, declared.Refusal.the-variants.{R, Status}}
+use Rattle.rules.specs.{declared.Verdict.Verdict, declared.Verdict.the-variants.{Accepted, Refused}}
 use Rattle.rules.proofs.histories.Swapping.{strike}
 
 outcome-leaves : (v : Verdict) (m : Module) (c : Call) (n : ℕ) (answer : List ℕ) → remains (outcome v m c n answer .reply .verdict) ≡ false

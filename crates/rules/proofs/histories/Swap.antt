@@ -1,22 +1,12 @@
 -- An accepted Start or Send and the exchange after it may change places, where that is a Get FW Info, a call on the rest, or a tick.
 -- Assumes nothing.
 use Prim.Native.Nat.{ℕ}
-use mathlib.Core.Path.{_≡_, refl, sym, _∙_, ap, subst}
-use mathlib.Core.Bool.{Bool, false}
-use mathlib.Core.List.{List}
-use Rattle.rules.specs.Record.{_is_, Module}
-use Rattle.rules.specs.Refusals.{verdict}
-use Rattle.rules.specs.Transfer.{TransferCall, GetFwInfo, Start, Send, Finish, Query}
-use Rattle.rules.specs.Transfers.{Answer, Exchange}
-use Rattle.rules.specs.Demand3.{remains, Sound}
-use Rattle.rules.specs.declared.Verdict.{Verdict}
-use Rattle.rules.specs.declared.Verdict.the-variants.{Accepted, Refused}
-use Rattle.rules.specs.declared.Phase.{Phase}
-use Rattle.rules.specs.declared.Phase.the-variants.{Receiving, Verifying}
-use Rattle.rules.specs.declared.Transfer.{Transfer}
+use mathlib.Core.{Path.{_≡_, refl, sym, _∙_, ap, subst}, Bool.{Bool, false}, List.List}
+use Rattle.rules.specs.{Record.{_is_, Module}, Refusals.verdict, Transfer.{TransferCall, GetFwInfo, Start, Send, Finish, Query}, Transfers.{Answer, Exchange}}
+use Rattle.rules.specs.{Demand3.{remains, Sound}, declared.Verdict.Verdict, declared.Verdict.the-variants.{Accepted, Refused}, declared.Phase.Phase}
+use Rattle.rules.specs.{declared.Phase.the-variants.{Receiving, Verifying}, declared.Transfer.Transfer}
 use Rattle.rules.proofs.page.Split.{TransferPart, partOf, restOf, join, Act, Transfers, Others, Ticks, Powers, act, front, partVerdict, partAfter, partAnswer, partNext, partTick, answers, nexts, inner}
-use Rattle.rules.proofs.page.Facts.{never, Kept, accepted-call, changes, start-ok, send-ok, Tick, calm, counting, good, bad, tick-case}
-use Rattle.rules.proofs.histories.Swapping.{Swaps}
+use Rattle.rules.proofs.{page.Facts.{never, Kept, accepted-call, changes, start-ok, send-ok, Tick, calm, counting, good, bad, tick-case}, histories.Swapping.Swaps}
 
 -- a Start or a Send
 abbrev pub OwnCall : TransferCall → Type 0

@@ -1,9 +1,6 @@
 -- Exchanges that may change places, and exchanges that may be struck out. For any machine.
 -- Assumes nothing.
-use mathlib.Core.Path.{_≡_, refl, sym, _∙_, ap, subst}
-use mathlib.Core.Logic.{_⊎_, inl, inr}
-use mathlib.Core.Bool.{Bool, true, false}
-use mathlib.Core.List.{[], List, _∷_, _++_}
+use mathlib.Core.{Path.{_≡_, refl, sym, _∙_, ap, subst}, Logic.{_⊎_, inl, inr}, Bool.{Bool, true, false}, List.{[], List, _∷_, _++_}}
 use Rattle.rules.specs.History.{Machine, ExchangeOf, Plays, end, keep, only, except, All, Same}
 use Rattle.rules.proofs.histories.Joining.{same-refl, same-trans, same-cons}
 

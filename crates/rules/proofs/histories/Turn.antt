@@ -1,22 +1,13 @@
 -- Each from one host: with honest hosts every Send and every Finish of the open transfer is made by the host that started it.
 -- Assumes nothing.
 use Prim.Native.Nat.{ℕ, _≤_}
-use mathlib.Core.Path.{_≡_, refl, sym, _∙_, subst}
-use mathlib.Core.Logic.{inl, inr}
-use mathlib.Core.List.{[], List, _∷_}
+use mathlib.Core.{Path.{_≡_, refl, sym, _∙_, subst}, Logic.{inl, inr}, List.{[], List, _∷_}}
 use native.Mathlib.Omega.{arith}
-use Rattle.rules.specs.Record.{Module}
-use Rattle.rules.specs.History.{Plays, All}
+use Rattle.rules.specs.{Record.Module, History.{Plays, All}}
 use Rattle.rules.specs.Transfers.{Exchange, History, Kind, Started, Sent, Finished, Ticked, Powered, Other, kindOf, Open, none, by, withPiece, openAfter, ContextIs, InOrder, StarterIs, ByStarter, AllByStarter}
-use Rattle.rules.specs.Hosts.{AnsweredTo, HonestAfter}
-use Rattle.rules.specs.Demand3.{Sound}
-use Rattle.rules.proofs.page.Split.{TransferPart, partOf, act, inner, givenIn}
-use Rattle.rules.proofs.page.Possible.{sound-act}
-use Rattle.rules.proofs.histories.Gate.{Remains}
-use Rattle.rules.proofs.histories.KindOf.{NoStart}
-use Rattle.rules.proofs.histories.Inside.{Begun, begun}
-use Rattle.rules.proofs.histories.Honest.{uses-act}
-use Rattle.rules.proofs.histories.Order.{Fits, UsesKind, goes}
+use Rattle.rules.specs.{Hosts.{AnsweredTo, HonestAfter}, Demand3.Sound}
+use Rattle.rules.proofs.{page.Split.{TransferPart, partOf, act, inner, givenIn}, page.Possible.sound-act, histories.Gate.Remains, histories.KindOf.NoStart}
+use Rattle.rules.proofs.{histories.Inside.{Begun, begun}, histories.Honest.uses-act, histories.Order.{Fits, UsesKind, goes}}
 
 -- the open transfer's context was answered to its host alone
 abbrev Sole : History → Open → Type 0

@@ -1,25 +1,15 @@
 -- All finished transfers at once: the rearranged history is made by moves, and in it each finished transfer is unbroken.
 -- Assumes nothing.
 use Prim.Native.Nat.{ℕ}
-use mathlib.Core.Path.{_≡_, refl, sym, _∙_, ap, subst}
-use mathlib.Core.Logic.{_⊎_, inl, inr}
-use mathlib.Core.Bool.{Bool, true, false, _||_, false≢true}
-use mathlib.Core.List.{[], _∷_, _++_, append-assoc}
+use mathlib.Core.{Path.{_≡_, refl, sym, _∙_, ap, subst}, Logic.{_⊎_, inl, inr}, Bool.{Bool, true, false, _||_, false≢true}, List.{[], _∷_, _++_, append-assoc}}
 use native.Mathlib.Omega.{arith}
 use borrow.Author.Tests.{eqb-true, eq-eqb}
-use Rattle.rules.specs.Record.{Module}
-use Rattle.rules.specs.History.{Plays, All, Same, some, upTo, onFrom}
+use Rattle.rules.specs.{Record.Module, History.{Plays, All, Same, some, upTo, onFrom}}
 use Rattle.rules.specs.Transfers.{machine, Exchange, History, Kind, Started, Sent, Finished, Ticked, Powered, Other, kindOf}
 use Rattle.rules.specs.Sends.{isSendOf, ownSends, others, FinishedIn}
-use Rattle.rules.specs.Moves.{moved, ByMoves, as-it-is, one-more, isFinishOf, itsFinish, settle, rearranged, Unbroken}
-use Rattle.rules.specs.Demand3.{Sound, AllMoved}
-use Rattle.rules.proofs.page.Choice.{or-true}
-use Rattle.rules.proofs.histories.Joining.{same-refl, same-trans}
-use Rattle.rules.proofs.page.Possible.{sound-next}
-use Rattle.rules.proofs.histories.Gate.{Remains, inwards}
-use Rattle.rules.proofs.histories.KindOf.{NoStart}
-use Rattle.rules.proofs.histories.Inside.{Within}
-use Rattle.rules.proofs.histories.Moved.{move, all-by-moves, between-within, free-of, all-no-finish}
+use Rattle.rules.specs.{Moves.{moved, ByMoves, as-it-is, one-more, isFinishOf, itsFinish, settle, rearranged, Unbroken}, Demand3.{Sound, AllMoved}}
+use Rattle.rules.proofs.{page.Choice.or-true, histories.Joining.{same-refl, same-trans}, page.Possible.sound-next, histories.Gate.{Remains, inwards}}
+use Rattle.rules.proofs.{histories.KindOf.NoStart, histories.Inside.Within, histories.Moved.{move, all-by-moves, between-within, free-of, all-no-finish}}
 
 -- the first Finish of the context c in r
 record Split (c : ℕ) (r : History) : Type 0 where

@@ -1,28 +1,14 @@
 -- One image waits at a time: while one is verified no Start is accepted.
 -- Assumes nothing.
 use Prim.Native.Nat.{ℕ, _≤_}
-use mathlib.Core.Path.{_≡_, refl, sym, _∙_, ap, subst}
-use mathlib.Core.Logic.{_⊎_, inl, inr}
-use mathlib.Core.Bool.{Bool, true, false}
-use mathlib.Core.List.{_∷_, _++_}
+use mathlib.Core.{Path.{_≡_, refl, sym, _∙_, ap, subst}, Logic.{_⊎_, inl, inr}, Bool.{Bool, true, false}, List.{_∷_, _++_}}
 use native.Mathlib.Omega.{arith}
 use borrow.Author.Tests.{leb-true, leb-false}
-use Rattle.rules.specs.Tests.{_≤?_}
-use Rattle.rules.specs.Numbers.{verification}
-use Rattle.rules.specs.Record.{_is_, Module}
-use Rattle.rules.specs.Transfer.{Start}
-use Rattle.rules.specs.History.{Plays, end, All}
-use Rattle.rules.specs.Transfers.{machine, Exchange, History, Started, kindOf}
-use Rattle.rules.specs.Sends.{ticksIn, powerCycles}
-use Rattle.rules.specs.Demand3.{Sound, OneWaits}
-use Rattle.rules.specs.declared.Phase.{Phase}
+use Rattle.rules.specs.{Tests._≤?_, Numbers.verification, Record.{_is_, Module}, Transfer.Start, History.{Plays, end, All}}
+use Rattle.rules.specs.{Transfers.{machine, Exchange, History, Started, kindOf}, Sends.{ticksIn, powerCycles}, Demand3.{Sound, OneWaits}, declared.Phase.Phase}
 use Rattle.rules.specs.declared.Phase.the-variants.{Verifying}
-use Rattle.rules.proofs.histories.Joining.{plays-right}
-use Rattle.rules.proofs.page.Split.{TransferPart, partOf, Act, Transfers, act, answers, inner}
-use Rattle.rules.proofs.page.Through.{kind-act}
-use Rattle.rules.proofs.page.Facts.{never, start-ok}
-use Rattle.rules.proofs.histories.KindOf.{StartAct, started-act, good-accepted}
-use Rattle.rules.proofs.histories.Gate.{Remains, inwards}
+use Rattle.rules.proofs.{histories.Joining.plays-right, page.Split.{TransferPart, partOf, Act, Transfers, act, answers, inner}, page.Through.kind-act}
+use Rattle.rules.proofs.{page.Facts.{never, start-ok}, histories.KindOf.{StartAct, started-act, good-accepted}, histories.Gate.{Remains, inwards}}
 use Rattle.rules.proofs.histories.Due.{Held, held, after-finish}
 
 -- an accepted Start finds no image that is being verified

@@ -1,20 +1,12 @@
 -- What it says of a call that its checks have passed.
 -- Assumes nothing.
-use mathlib.Core.Path.{_≡_}
-use mathlib.Core.Bool.{not, _||_}
-use mathlib.Core.List.{List}
+use mathlib.Core.{Path._≡_, Bool.{not, _||_}, List.List}
 use Prim.Native.Nat.{ℕ, _+_, _≤_}
 use lib.ListN.{length}
 use borrow.Author.Tests.{eqb-true, eqb-false, ltb-false, not-false}
-use Rattle.rules.specs.Tests.{_=?_, _<?_}
-use Rattle.rules.specs.Numbers.{areaSize, longestPiece, lastContext}
-use Rattle.rules.specs.Refusals.{verdict}
-use Rattle.rules.specs.Transfer.{startChecks, sendChecks}
-use Rattle.rules.specs.declared.Verdict.the-variants.{Accepted}
-use Rattle.rules.specs.declared.Transfer.{Transfer}
-use Rattle.rules.proofs.page.Choice.{or-false}
-use Rattle.rules.proofs.page.Passed.{passed}
-use Rattle.rules.specs.Record.{given}
+use Rattle.rules.specs.{Tests.{_=?_, _<?_}, Numbers.{areaSize, longestPiece, lastContext}, Refusals.verdict, Transfer.{startChecks, sendChecks}}
+use Rattle.rules.specs.{declared.Verdict.the-variants.Accepted, declared.Transfer.Transfer, Record.given}
+use Rattle.rules.proofs.{page.Choice.or-false, page.Passed.passed}
 
 -- a Start that is accepted: a number is left to give
 pub start-left : (t : Transfer) → verdict (startChecks t) ≡ Accepted → given t ≡ lastContext → ⊥

@@ -1,17 +1,10 @@
 -- "The area's bytes stay": from any record and area, no event but an accepted Send changes the area.
 -- Assumes nothing.
 use Prim.Native.Nat.{ℕ}
-use mathlib.Core.Path.{_≡_, refl}
-use mathlib.Core.List.{List}
-use Rattle.rules.specs.Refusals.{verdict, eventChecks}
-use Rattle.rules.specs.Table.{rowOf}
-use Rattle.rules.specs.Transfer.{GetFwInfo, Start, Send, Finish, Query}
-use Rattle.rules.specs.Record.{Module}
+use mathlib.Core.{Path.{_≡_, refl}, List.List}
+use Rattle.rules.specs.{Refusals.{verdict, eventChecks}, Table.rowOf, Transfer.{GetFwInfo, Start, Send, Finish, Query}, Record.Module}
 use Rattle.rules.specs.Module.{Call, OnMask, OnThresholds, OnTransfer, OnSecurity, OnNothing, call, tick, power, outcome, ticked, powered, happened, callChecks, callResult, tickResult, powerResult, callIn}
-use Rattle.rules.specs.Transfers.{callKind}
-use Rattle.rules.specs.Beside.{NoSend, AreaStays}
-use Rattle.rules.specs.declared.Refusal.the-variants.{R, Status}
-use Rattle.rules.specs.declared.Verdict.{Verdict}
+use Rattle.rules.specs.{Transfers.callKind, Beside.{NoSend, AreaStays}, declared.Refusal.the-variants.{R, Status}, declared.Verdict.Verdict}
 use Rattle.rules.specs.declared.Verdict.the-variants.{Accepted, Refused}
 
 outcome-area : (v : Verdict) (host : ℕ) (m : Module) (c : Call) (n : ℕ) (answer : List ℕ)

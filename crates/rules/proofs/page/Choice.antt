@@ -1,7 +1,6 @@
 -- What the outcome of tests that are joined says of each.
 -- Assumes nothing.
-use mathlib.Core.Path.{_≡_, refl}
-use mathlib.Core.Bool.{Bool, true, false, _&&_, _||_, false≢true, true≢false}
+use mathlib.Core.{Path.{_≡_, refl}, Bool.{Bool, true, false, _&&_, _||_, false≢true, true≢false}}
 use Rattle.rules.specs.Tests.{if_then_else_}
 
 pub or-false : (a b : Bool) → (a || b) ≡ false → (a ≡ false) × (b ≡ false)

@@ -1,19 +1,10 @@
 -- Document 01, "Cases for the bench" and "The replay program": every case marked P holds, and every log of the list prints its text, by computation over the
 -- definitions.
 -- Assumes nothing.
-use mathlib.Core.Path.{_≡_, refl}
-use Rattle.rules.specs.Bytes.{zeros?, same?}
-use Rattle.rules.specs.Record.{possible, possibleTransfer, possibleSecurity, possibleThresholds}
-use Rattle.rules.specs.Refusals.{verdict}
-use Rattle.rules.specs.Table.{rowOf, fits?, mask}
-use Rattle.rules.specs.Image.{sumOfWords, goodRecord, goodRecords, goodImage, imageOf}
-use Rattle.rules.specs.Module.{callResult, tickResult, powerResult}
-use Rattle.rules.specs.Text.{decimal}
-use Rattle.rules.specs.Log.{entryOf}
-use Rattle.rules.specs.Replay.{moduleAfter, recordLines, replayText}
-use Rattle.rules.specs.Cases.{cases, failing}
-use Rattle.rules.specs.Texts.{texts, logOf, textOf}
-use mathlib.Core.List.{[], map}
+use mathlib.Core.{Path.{_≡_, refl}, List.{[], map}}
+use Rattle.rules.specs.{Bytes.{zeros?, same?}, Record.{possible, possibleTransfer, possibleSecurity, possibleThresholds}, Refusals.verdict}
+use Rattle.rules.specs.{Table.{rowOf, fits?, mask}, Image.{sumOfWords, goodRecord, goodRecords, goodImage, imageOf}, Module.{callResult, tickResult, powerResult}}
+use Rattle.rules.specs.{Text.decimal, Log.entryOf, Replay.{moduleAfter, recordLines, replayText}, Cases.{cases, failing}, Texts.{texts, logOf, textOf}}
 
 -- No row of the case list fails.
 pub claim : failing 0 cases ≡ []

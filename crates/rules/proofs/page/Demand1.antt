@@ -1,30 +1,16 @@
 -- Demand 1, proved: a refused call is refused by its number in document 01, writes that number's bytes, and leaves the rest.
 -- Assumes nothing.
-use mathlib.Core.Path.{_≡_, refl, sym, _∙_, ap, subst}
-use mathlib.Core.Logic.{inl, inr}
-use mathlib.Core.Bool.{Bool, true, false, _&&_, _||_, false≢true}
-use mathlib.Core.List.{List, [], _∷_, _++_}
+use mathlib.Core.{Path.{_≡_, refl, sym, _∙_, ap, subst}, Logic.{inl, inr}, Bool.{Bool, true, false, _&&_, _||_, false≢true}, List.{List, [], _∷_, _++_}}
 use Prim.Native.Nat.{ℕ, _-_}
 use borrow.Author.Tests.{eqb-true, eq-eqb}
 use lib.ListN.{length, take}
-use Rattle.rules.specs.Tests.{_=?_}
-use Rattle.rules.specs.Bytes.{zeros}
-use Rattle.rules.specs.Record.{Module}
-use Rattle.rules.specs.Refusals.{verdict, statusBytes, statusLength, answerAfter}
-use Rattle.rules.specs.Table.{table, rowOf}
+use Rattle.rules.specs.{Tests._=?_, Bytes.zeros, Record.Module, Refusals.{verdict, statusBytes, statusLength, answerAfter}, Table.{table, rowOf}}
 use Rattle.rules.specs.Module.{Call, callOf, checks, acceptedAnswer, gateChecks, callChecks, outcome, callResult}
-use Rattle.rules.specs.Demand1.{refusalNumbers, Among, Numbered, column, RefusedBy, Answered, OfCall, Demand1}
-use Rattle.rules.specs.declared.Function.{Function}
+use Rattle.rules.specs.{Demand1.{refusalNumbers, Among, Numbered, column, RefusedBy, Answered, OfCall, Demand1}, declared.Function.Function}
 use Rattle.rules.specs.declared.Function.the-variants.{Mask, GetThreshold, GetFwInfo, Start, Send, Finish, Query, SetThreshold, GetSecurityState, SetPassphrase, Disable, Unlock, Freeze, Unserved}
-use Rattle.rules.specs.declared.Row.{Row}
-use Rattle.rules.specs.declared.Refusal.{Refusal}
-use Rattle.rules.specs.declared.Refusal.the-variants.{R, Status}
-use Rattle.rules.specs.declared.Verdict.{Verdict}
+use Rattle.rules.specs.{declared.Row.Row, declared.Refusal.Refusal, declared.Refusal.the-variants.{R, Status}, declared.Verdict.Verdict}
 use Rattle.rules.specs.declared.Verdict.the-variants.{Accepted, Refused}
-use Rattle.rules.proofs.page.Choice.{and-true}
-use Rattle.rules.proofs.page.Passed.{every, by-rows}
-use Rattle.rules.proofs.page.Rows.{looked-up}
-use Rattle.rules.proofs.page.Given.{each-given}
+use Rattle.rules.proofs.{page.Choice.and-true, page.Passed.{every, by-rows}, page.Rows.looked-up, page.Given.each-given}
 use Rattle.rules.proofs.page.Possible.{possible-fresh, possible-next, area-next, only-R1}
 
 -- a test for the numbers of a list, and that it tells the truth

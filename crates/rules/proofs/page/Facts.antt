@@ -1,32 +1,17 @@
 -- What an accepted transfer call tells of the record, call by call: what its checks, passed one by one, come to.
 -- Assumes nothing.
 use Prim.Native.Nat.{ℕ, _+_, _-_, _≤_, _<_}
-use mathlib.Core.Path.{_≡_, refl, sym, _∙_, ap}
-use mathlib.Core.Bool.{Bool, true, false, not, _||_, true≢false}
-use mathlib.Core.List.{List, _++_}
+use mathlib.Core.{Path.{_≡_, refl, sym, _∙_, ap}, Bool.{Bool, true, false, not, _||_, true≢false}, List.{List, _++_}}
 use lib.ListN.{length}
 use borrow.Author.Tests.{ltb-true, ltb-false, eqb-true, eqb-false, not-false}
-use Rattle.rules.specs.Tests.{if_then_else_, _=?_, _<?_}
-use Rattle.rules.specs.Numbers.{areaSize, longestPiece, lastContext}
-use Rattle.rules.specs.Record.{_is_, phaseNumber, current, given}
-use Rattle.rules.specs.Refusals.{verdict, statusBytes}
-use Rattle.rules.specs.With.{_with-ticks_, _with-phase_, _with-staged_}
-use Rattle.rules.specs.Image.{imageOf}
-use Rattle.rules.specs.Transfer.{TransferCall, Start, Send, Finish, Query, transferChecks, transferAnswer, tickChange, receivedBytes}
-use Rattle.rules.specs.Transfers.{Answer}
-use Rattle.rules.specs.Demand3.{remains}
-use Rattle.rules.specs.declared.Refusal.the-variants.{R, Status}
-use Rattle.rules.specs.declared.Verdict.{Verdict}
-use Rattle.rules.specs.declared.Verdict.the-variants.{Accepted, Refused}
-use Rattle.rules.specs.declared.Image.{Image}
-use Rattle.rules.specs.declared.Image.the-variants.{Good, Bad}
-use Rattle.rules.specs.declared.Phase.{Phase}
-use Rattle.rules.specs.declared.Phase.the-variants.{Idle, Receiving, Verifying, Staged, Failed}
-use Rattle.rules.specs.declared.Transfer.{Transfer}
-use Rattle.rules.proofs.page.Choice.{or-false, and-true}
-use Rattle.rules.proofs.page.Passed.{AllFalse, passed}
-use Rattle.rules.proofs.page.Split.{TransferPart, front, answerBy, partVerdict, partChange, partAnswer, partNext}
-use Rattle.rules.proofs.page.Through.{taken, transfer-mild}
+use Rattle.rules.specs.{Tests.{if_then_else_, _=?_, _<?_}, Numbers.{areaSize, longestPiece, lastContext}, Record.{_is_, phaseNumber, current, given}}
+use Rattle.rules.specs.{Refusals.{verdict, statusBytes}, With.{_with-ticks_, _with-phase_, _with-staged_}, Image.imageOf}
+use Rattle.rules.specs.{Transfer.{TransferCall, Start, Send, Finish, Query, transferChecks, transferAnswer, tickChange, receivedBytes}, Transfers.Answer}
+use Rattle.rules.specs.{Demand3.remains, declared.Refusal.the-variants.{R, Status}, declared.Verdict.Verdict, declared.Verdict.the-variants.{Accepted, Refused}}
+use Rattle.rules.specs.{declared.Image.Image, declared.Image.the-variants.{Good, Bad}, declared.Phase.Phase}
+use Rattle.rules.specs.{declared.Phase.the-variants.{Idle, Receiving, Verifying, Staged, Failed}, declared.Transfer.Transfer}
+use Rattle.rules.proofs.{page.Choice.{or-false, and-true}, page.Passed.{AllFalse, passed}}
+use Rattle.rules.proofs.{page.Split.{TransferPart, front, answerBy, partVerdict, partChange, partAnswer, partNext}, page.Through.{taken, transfer-mild}}
 
 pub never : {X : Type 0} → true ≡ false → X
 never e = absurd (true≢false e)

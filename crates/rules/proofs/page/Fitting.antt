@@ -1,23 +1,13 @@
 -- Every row of the table: a request of its length has the bytes that its function reads, and its answer has 4 to 44 bytes.
 -- Assumes nothing.
-use mathlib.Core.Path.{_≡_}
-use mathlib.Core.Bool.{true}
-use mathlib.Core.List.{List}
+use mathlib.Core.{Path._≡_, Bool.true, List.List}
 use Prim.Native.Nat.{ℕ, _≤_}
-use lib.Dec.{lit≤}
-use lib.ListN.{length}
+use lib.{Dec.lit≤, ListN.length}
 use borrow.Author.Tests.{eqb-true, leb-true, not-false}
-use Rattle.rules.specs.Tests.{_=?_}
-use Rattle.rules.specs.Table.{table, rowOf, fits?}
-use Rattle.rules.specs.Refusals.{verdict}
-use Rattle.rules.specs.Record.{Module}
-use Rattle.rules.specs.Module.{gateChecks}
-use Rattle.rules.specs.declared.Row.{Row}
-use Rattle.rules.specs.declared.Verdict.the-variants.{Accepted}
-use Rattle.rules.proofs.page.Rows.{looked-up}
-use Rattle.rules.proofs.page.Passed.{passed}
-use Rattle.rules.specs.declared.Function.{Function}
+use Rattle.rules.specs.{Tests._=?_, Table.{table, rowOf, fits?}, Refusals.verdict, Record.Module, Module.gateChecks, declared.Row.Row}
+use Rattle.rules.specs.{declared.Verdict.the-variants.Accepted, declared.Function.Function}
 use Rattle.rules.specs.declared.Function.the-variants.{Mask, GetThreshold, GetFwInfo, Start, Send, Finish, Query, SetThreshold, GetSecurityState, SetPassphrase, Disable, Unlock, Freeze, Unserved}
+use Rattle.rules.proofs.{page.Rows.looked-up, page.Passed.passed}
 
 -- what the table's request lengths say of each function: the bytes that it reads are there
 abbrev pub Fitting : Function → (size : ℕ) → Type 0
@@ -76,8 +66,34 @@ Answers row = (4 ≤ row .answer) × (row .answer ≤ 44)
 
 pub answers : (index : ℕ) → Answers (rowOf index)
 unfolding rowOf
-answers index = looked-up Answers index table
-    ((lit≤ tt, lit≤ tt), ((lit≤ tt, lit≤ tt), ((lit≤ tt, lit≤ tt), ((lit≤ tt, lit≤ tt), ((lit≤ tt, lit≤ tt), ((lit≤ tt, lit≤ tt), ((lit≤ tt, lit≤ tt), ((lit≤ tt, lit≤ tt), ((lit≤ tt, lit≤ tt), ((lit≤ tt, lit≤ tt), ((lit≤ tt, lit≤ tt), ((lit≤ tt, lit≤ tt), ((lit≤ tt, lit≤ tt), (lit≤ tt, lit≤ tt))))))))))))))
+answers index = looked-up Answers index table (
+  (lit≤ tt, lit≤ tt),
+  (
+    (lit≤ tt, lit≤ tt),
+    (
+      (lit≤ tt, lit≤ tt),
+      (
+        (lit≤ tt, lit≤ tt),
+        (
+          (lit≤ tt, lit≤ tt),
+          (
+            (lit≤ tt, lit≤ tt),
+            (
+              (lit≤ tt, lit≤ tt),
+              (
+                (
+                  lit≤ tt,
+                  lit≤ tt,
+                ),
+                ((lit≤ tt, lit≤ tt), ((lit≤ tt, lit≤ tt), ((lit≤ tt, lit≤ tt), ((lit≤ tt, lit≤ tt), ((lit≤ tt, lit≤ tt), (lit≤ tt, lit≤ tt)))))),
+              ),
+            ),
+          ),
+        ),
+      ),
+    ),
+  ),
+)
 
 -- a request that passed the gate has the bytes that its function reads
 pub gate-fits : (m : Module) (revision index : ℕ) (request answer : List ℕ)

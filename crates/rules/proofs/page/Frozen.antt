@@ -1,9 +1,7 @@
 -- "For 20 to 23, frozen or attempts at 10 gives 10 first."
 -- Assumes nothing.
 use mathlib.Core.Path.{refl}
-use Rattle.rules.specs.Refusals.{verdict}
-use Rattle.rules.specs.Security.{GetSecurityState, SetPassphrase, Disable, Unlock, Freeze}
-use Rattle.rules.specs.Beside.{FrozenFirst}
+use Rattle.rules.specs.{Refusals.verdict, Security.{GetSecurityState, SetPassphrase, Disable, Unlock, Freeze}, Beside.FrozenFirst}
 
 pub frozen-first : FrozenFirst
 unfolding verdict

@@ -2,25 +2,14 @@
 -- Assumes nothing.
 use Prim.Native.Nat.{ℕ}
 use native.Mathlib.Omega.{arith}
-use mathlib.Core.Path.{_≡_, refl, sym, _∙_, ap}
-use mathlib.Core.Logic.{inl, inr}
-use mathlib.Core.Bool.{true}
-use mathlib.Core.List.{List, [], _∷_, map}
+use mathlib.Core.{Path.{_≡_, refl, sym, _∙_, ap}, Logic.{inl, inr}, Bool.true, List.{List, [], _∷_, map}}
 use lib.ListN.{length, replicate}
-use Rattle.rules.specs.Bytes.{le, zeros, zeros?, same?}
-use Rattle.rules.specs.Numbers.{areaSize, lastContext}
+use Rattle.rules.specs.{Bytes.{le, zeros, zeros?, same?}, Numbers.{areaSize, lastContext}}
 use Rattle.rules.specs.With.{_with-phase_, _with-contexts_, _with-enabled_, _with-frozen_, _with-transfer_, _with-security_}
-use Rattle.rules.specs.Record.{fresh, possible, possibleTransfer, possibleSecurity, possibleThresholds, Module, moduleOf}
-use Rattle.rules.specs.Refusals.{verdict}
-use Rattle.rules.specs.Table.{rowOf, fits?}
-use Rattle.rules.specs.Module.{callResult}
-use Rattle.rules.specs.Demand1.{refusalNumbers, Among, GivenBySome}
-use Rattle.rules.specs.declared.Phase.{Phase}
-use Rattle.rules.specs.declared.Phase.the-variants.{Idle, Receiving, Staged, Failed}
-use Rattle.rules.specs.declared.Refusal.{Refusal}
-use Rattle.rules.specs.declared.Verdict.{Verdict}
-use Rattle.rules.specs.declared.Verdict.the-variants.{Accepted, Refused}
-use Rattle.rules.specs.declared.Security.{Security}
+use Rattle.rules.specs.{Record.{fresh, possible, possibleTransfer, possibleSecurity, possibleThresholds, Module, moduleOf}, Refusals.verdict, Table.{rowOf, fits?}}
+use Rattle.rules.specs.{Module.callResult, Demand1.{refusalNumbers, Among, GivenBySome}, declared.Phase.Phase}
+use Rattle.rules.specs.{declared.Phase.the-variants.{Idle, Receiving, Staged, Failed}, declared.Refusal.Refusal, declared.Verdict.Verdict}
+use Rattle.rules.specs.{declared.Verdict.the-variants.{Accepted, Refused}, declared.Security.Security}
 
 -- a call at revision 2: the module that it finds, the function, the request, the answer buffer
 record Witness : Type 0 where

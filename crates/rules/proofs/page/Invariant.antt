@@ -2,14 +2,9 @@
 -- clause for each kind of event; that it holds at the end of any history is proved once (histories/Gate.antt).
 -- Assumes nothing.
 use Prim.Native.Nat.{ℕ, _-_, _<_}
-use mathlib.Core.Path.{_≡_, refl, sym, subst}
-use mathlib.Core.Bool.{Bool}
-use Rattle.rules.specs.With.{_with-ticks_, _with-phase_, _with-staged_}
-use Rattle.rules.specs.Record.{Module}
-use Rattle.rules.specs.Transfer.{TransferCall}
-use Rattle.rules.specs.declared.Phase.the-variants.{Verifying, Staged, Failed}
-use Rattle.rules.specs.declared.Transfer.{Transfer}
-use Rattle.rules.specs.declared.Verdict.{Verdict}
+use mathlib.Core.{Path.{_≡_, refl, sym, subst}, Bool.Bool}
+use Rattle.rules.specs.{With.{_with-ticks_, _with-phase_, _with-staged_}, Record.Module, Transfer.TransferCall}
+use Rattle.rules.specs.{declared.Phase.the-variants.{Verifying, Staged, Failed}, declared.Transfer.Transfer, declared.Verdict.Verdict}
 use Rattle.rules.specs.declared.Verdict.the-variants.{Accepted, Refused}
 use Rattle.rules.proofs.page.Split.{TransferPart, _with-part_, partOf, partVerdict, partChange, partAfter, partTick, partPower, Act, Transfers, Others, Ticks, Powers, nexts}
 use Rattle.rules.proofs.page.Facts.{Tick, calm, counting, good, bad, tick-case}

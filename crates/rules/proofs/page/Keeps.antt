@@ -1,33 +1,20 @@
 -- Every act of the two parts takes what a possible record has to what a possible record has. The facts; the theorems are in proofs/Possible.antt.
 -- Assumes nothing.
 use Prim.Native.Nat.{_-_, _≤_, _<_}
-use mathlib.Core.Path.{_≡_, refl, sym, subst}
-use mathlib.Core.Bool.{Bool, true, false, not, _&&_, _||_}
-use mathlib.Core.List.{List, _∷_, []}
+use mathlib.Core.{Path.{_≡_, refl, sym, subst}, Bool.{Bool, true, false, not, _&&_, _||_}, List.{List, _∷_, []}}
 use native.Mathlib.Omega.{arith}
 use lib.ListN.{length, length-append, length-take, length-drop}
 use borrow.Author.Tests.{ltb-true, ltb-false, leb-true, lt-ltb, le-leb, eqb-true, eqb-false, eq-eqb, not-true, not-false}
-use Rattle.rules.specs.Tests.{if_then_else_, _=?_, _<?_, _≤?_, _implies_, _unless_}
-use Rattle.rules.specs.Bytes.{zeros?}
-use Rattle.rules.specs.Numbers.{areaSize, verification, attemptLimit, lastContext}
+use Rattle.rules.specs.{Tests.{if_then_else_, _=?_, _<?_, _≤?_, _implies_, _unless_}, Bytes.zeros?, Numbers.{areaSize, verification, attemptLimit, lastContext}}
 use Rattle.rules.specs.With.{_with-ticks_, _with-phase_, _with-received_}
-use Rattle.rules.specs.Record.{_is_, possible, possibleTransfer, possibleSecurity, possibleThresholds, Module, current, given}
-use Rattle.rules.specs.Refusals.{Check, _gives_, verdict}
-use Rattle.rules.specs.Thresholds.{GetThreshold, SetThreshold}
-use Rattle.rules.specs.Transfer.{TransferCall, GetFwInfo, Start, Send, Finish, Query}
-use Rattle.rules.specs.Security.{SecurityCall, GetSecurityState, SetPassphrase, Disable, Unlock, Freeze, securityChecks, wrong}
-use Rattle.rules.specs.declared.Refusal.{Refusal}
-use Rattle.rules.specs.declared.Refusal.the-variants.{R, Status}
-use Rattle.rules.specs.declared.Verdict.the-variants.{Accepted, Refused}
-use Rattle.rules.specs.declared.Phase.{Phase}
-use Rattle.rules.specs.declared.Phase.the-variants.{Idle, Receiving, Verifying, Staged, Failed}
-use Rattle.rules.specs.declared.Transfer.{Transfer}
-use Rattle.rules.specs.declared.Security.{Security}
+use Rattle.rules.specs.{Record.{_is_, possible, possibleTransfer, possibleSecurity, possibleThresholds, Module, current, given}, Refusals.{Check, _gives_, verdict}}
+use Rattle.rules.specs.{Thresholds.{GetThreshold, SetThreshold}, Transfer.{TransferCall, GetFwInfo, Start, Send, Finish, Query}}
+use Rattle.rules.specs.{Security.{SecurityCall, GetSecurityState, SetPassphrase, Disable, Unlock, Freeze, securityChecks, wrong}, declared.Refusal.Refusal}
+use Rattle.rules.specs.{declared.Refusal.the-variants.{R, Status}, declared.Verdict.the-variants.{Accepted, Refused}, declared.Phase.Phase}
+use Rattle.rules.specs.{declared.Phase.the-variants.{Idle, Receiving, Verifying, Staged, Failed}, declared.Transfer.Transfer, declared.Security.Security}
 use Rattle.rules.proofs.page.Choice.{or-false, and-true, and-6, if-both}
 use Rattle.rules.proofs.page.Split.{TransferPart, Rest, partOf, restOf, RestCall, Masks, Limits, Locks, Nothing, Act, Transfers, Others, Ticks, Powers, partVerdict, partChange, partTick, restAfter, restChange, restChecks, restNext, restPower, nexts, givenIn}
-use Rattle.rules.proofs.page.Through.{mild}
-use Rattle.rules.proofs.page.Facts.{never, start-ok, send-ok, finish-ok}
-use Rattle.rules.proofs.page.Invariant.{by-tick, Invariant, keeps-next}
+use Rattle.rules.proofs.{page.Through.mild, page.Facts.{never, start-ok, send-ok, finish-ok}, page.Invariant.{by-tick, Invariant, keeps-next}}
 
 -- the transfer's part, phase by phase
 abbrev pub PhaseOk : Phase → Transfer → Type 0

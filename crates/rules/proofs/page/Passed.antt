@@ -1,12 +1,8 @@
 -- What a verdict says of the rows: an accepted event made every test false, a refusal is one of the rows' own, and rows that are joined are judged one part
 -- after the other. The laws go by the row that refuses, whatever its number is.
 -- Assumes nothing.
-use mathlib.Core.Path.{_≡_, refl, sym, _∙_, ap}
-use mathlib.Core.Bool.{Bool, true, false, _&&_, true≢false}
-use mathlib.Core.List.{[], List, _∷_, _++_}
-use Rattle.rules.specs.declared.Verdict.{Verdict}
-use Rattle.rules.specs.declared.Verdict.the-variants.{Accepted, Refused}
-use Rattle.rules.specs.Refusals.{Check, _gives_, verdict, refused?}
+use mathlib.Core.{Path.{_≡_, refl, sym, _∙_, ap}, Bool.{Bool, true, false, _&&_, true≢false}, List.{[], List, _∷_, _++_}}
+use Rattle.rules.specs.{declared.Verdict.Verdict, declared.Verdict.the-variants.{Accepted, Refused}, Refusals.{Check, _gives_, verdict, refused?}}
 use Rattle.rules.proofs.page.Choice.{and-true}
 
 abbrev pub AllFalse : List Check → Type 0

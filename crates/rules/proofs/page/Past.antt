@@ -1,23 +1,15 @@
 -- What it says of an event that none of the first checks refused it: the buffers have their sizes and the record is possible; and what a possible record bounds.
 -- Assumes nothing.
-use mathlib.Core.Path.{_≡_, subst}
-use mathlib.Core.Bool.{true, _&&_}
-use mathlib.Core.List.{List, _∷_, _++_, []}
+use mathlib.Core.{Path.{_≡_, subst}, Bool.{true, _&&_}, List.{List, _∷_, _++_, []}}
 use Prim.Native.Nat.{ℕ, _≤_}
 use lib.ListN.{length}
 use borrow.Author.Tests.{eqb-true, leb-true, ltb-false, not-false}
-use Rattle.rules.specs.Tests.{_≤?_, _=?_, _implies_, _unless_}
-use Rattle.rules.specs.Bytes.{zeros?}
-use Rattle.rules.specs.Numbers.{areaSize, answerRoom, verification, attemptLimit}
+use Rattle.rules.specs.{Tests.{_≤?_, _=?_, _implies_, _unless_}, Bytes.zeros?, Numbers.{areaSize, answerRoom, verification, attemptLimit}}
 use Rattle.rules.specs.Record.{_is_, current, possible, possibleTransfer, possibleSecurity, possibleThresholds, Module}
-use Rattle.rules.specs.Refusals.{Check, verdict, R1Check, eventChecks}
-use Rattle.rules.specs.declared.Phase.the-variants.{Idle, Verifying, Staged}
-use Rattle.rules.specs.declared.Refusal.the-variants.{R, Status}
-use Rattle.rules.specs.declared.Verdict.{Verdict}
-use Rattle.rules.specs.declared.Verdict.the-variants.{Accepted, Refused}
+use Rattle.rules.specs.{Refusals.{Check, verdict, R1Check, eventChecks}, declared.Phase.the-variants.{Idle, Verifying, Staged}}
+use Rattle.rules.specs.{declared.Refusal.the-variants.{R, Status}, declared.Verdict.Verdict, declared.Verdict.the-variants.{Accepted, Refused}}
 use Rattle.rules.specs.declared.Device.{Device}
-use Rattle.rules.proofs.page.Choice.{and-3, and-6}
-use Rattle.rules.proofs.page.Passed.{NotBy, past-rows}
+use Rattle.rules.proofs.{page.Choice.{and-3, and-6}, page.Passed.{NotBy, past-rows}}
 
 -- the verdict is no R number
 abbrev pub NoR : Verdict → Type 0

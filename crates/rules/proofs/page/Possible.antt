@@ -2,25 +2,15 @@
 -- such a module no R number is given but R1, for a short answer buffer.
 -- Assumes nothing.
 use Prim.Native.Nat.{ℕ}
-use mathlib.Core.Path.{_≡_, refl, sym, ap, _∙_, subst}
-use mathlib.Core.Bool.{Bool, true, false}
-use mathlib.Core.List.{List}
+use mathlib.Core.{Path.{_≡_, refl, sym, ap, _∙_, subst}, Bool.{Bool, true, false}, List.List}
 use native.Mathlib.Omega.{arith}
 use lib.ListN.{length}
 use borrow.Author.Tests.{eq-eqb}
-use Rattle.rules.specs.Bytes.{zeros?}
-use Rattle.rules.specs.Numbers.{areaSize}
-use Rattle.rules.specs.Record.{fresh, possible, possibleTransfer, possibleSecurity, possibleThresholds, Module}
-use Rattle.rules.specs.Module.{Event, step}
-use Rattle.rules.specs.Transfers.{machine}
-use Rattle.rules.specs.Demand3.{freshWith, Sound}
-use Rattle.rules.specs.declared.Refusal.the-variants.{R}
-use Rattle.rules.specs.declared.Verdict.the-variants.{Refused}
-use Rattle.rules.proofs.page.Split.{Act, act, nexts}
-use Rattle.rules.proofs.page.Through.{noR, Through, through, gate-noR, shut}
+use Rattle.rules.specs.{Bytes.zeros?, Numbers.areaSize, Record.{fresh, possible, possibleTransfer, possibleSecurity, possibleThresholds, Module}}
+use Rattle.rules.specs.{Module.{Event, step}, Transfers.machine, Demand3.{freshWith, Sound}, declared.Refusal.the-variants.R, declared.Verdict.the-variants.Refused}
 use Rattle.rules.specs.Demand1.{bufferTooShort}
-use Rattle.rules.proofs.page.Keeps.{Ok, ok-next, ok-possible, possible-ok, Fit, fit}
-use Rattle.rules.proofs.page.Invariant.{keeps-next}
+use Rattle.rules.proofs.{page.Split.{Act, act, nexts}, page.Through.{noR, Through, through, gate-noR, shut}}
+use Rattle.rules.proofs.{page.Keeps.{Ok, ok-next, ok-possible, possible-ok, Fit, fit}, page.Invariant.keeps-next}
 
 -- "Fresh" is possible.
 pub possible-fresh : possible fresh ≡ true

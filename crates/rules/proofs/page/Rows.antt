@@ -1,11 +1,8 @@
 -- What holds of every row of a table, and of the row for an index that it lacks, holds of the row that is looked up.
 -- Assumes nothing.
-use mathlib.Core.Bool.{Bool, true, false}
-use mathlib.Core.List.{[], List, _∷_}
+use mathlib.Core.{Bool.{Bool, true, false}, List.{[], List, _∷_}}
 use Prim.Native.Nat.{ℕ}
-use Rattle.rules.specs.Tests.{if_then_else_, _=?_}
-use Rattle.rules.specs.Table.{unserved, lookUp}
-use Rattle.rules.specs.declared.Row.{Row}
+use Rattle.rules.specs.{Tests.{if_then_else_, _=?_}, Table.{unserved, lookUp}, declared.Row.Row}
 
 abbrev pub All : (Row → Type 0) → List (ℕ × Row) → Type 0
 All P [] = P unserved

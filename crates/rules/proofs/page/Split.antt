@@ -1,26 +1,15 @@
 -- The module without its R numbers, in two parts that do not touch: what a transfer uses, and the rest. Definitions for the proofs only.
 -- Assumes nothing.
 use Prim.Native.Nat.{ℕ, _+_}
-use mathlib.Core.Bool.{Bool, not, _&&_}
-use mathlib.Core.List.{List, _∷_, _++_, []}
-use Rattle.rules.specs.Tests.{if_then_else_, _=?_}
-use Rattle.rules.specs.Bytes.{le}
-use Rattle.rules.specs.With.{_with-attempts_}
-use Rattle.rules.specs.Refusals.{Check, _gives_, verdict, statusBytes, statusLength, statusAnswer, answerAfter}
-use Rattle.rules.specs.Table.{rowOf, served?, fits?, mask}
+use mathlib.Core.{Bool.{Bool, not, _&&_}, List.{List, _∷_, _++_, []}}
+use Rattle.rules.specs.{Tests.{if_then_else_, _=?_}, Bytes.le, With._with-attempts_}
+use Rattle.rules.specs.{Refusals.{Check, _gives_, verdict, statusBytes, statusLength, statusAnswer, answerAfter}, Table.{rowOf, served?, fits?, mask}}
 use Rattle.rules.specs.Thresholds.{ThresholdCall, thresholdChecks, thresholdAnswer, thresholdChange}
 use Rattle.rules.specs.Transfer.{TransferCall, transferChecks, transferAnswer, transferChange, transferArea, tickChange, transferPower}
-use Rattle.rules.specs.Security.{SecurityCall, securityChecks, securityAnswer, securityChange, securityPower}
-use Rattle.rules.specs.Record.{given, Module}
-use Rattle.rules.specs.Module.{Call, OnMask, OnThresholds, OnTransfer, OnSecurity, OnNothing, Event, call, tick, power, reply, callIn}
-use Rattle.rules.specs.History.{Machine}
-use Rattle.rules.specs.Transfers.{Answer, Kind, Ticked, Powered, Other, callKind}
-use Rattle.rules.specs.declared.Refusal.the-variants.{R, Status}
-use Rattle.rules.specs.declared.Verdict.{Verdict}
-use Rattle.rules.specs.declared.Verdict.the-variants.{Accepted, Refused}
-use Rattle.rules.specs.declared.Transfer.{Transfer}
-use Rattle.rules.specs.declared.Thresholds.{Thresholds}
-use Rattle.rules.specs.declared.Security.{Security}
+use Rattle.rules.specs.{Security.{SecurityCall, securityChecks, securityAnswer, securityChange, securityPower}, Record.{given, Module}}
+use Rattle.rules.specs.{Module.{Call, OnMask, OnThresholds, OnTransfer, OnSecurity, OnNothing, Event, call, tick, power, reply, callIn}, History.Machine}
+use Rattle.rules.specs.{Transfers.{Answer, Kind, Ticked, Powered, Other, callKind}, declared.Refusal.the-variants.{R, Status}, declared.Verdict.Verdict}
+use Rattle.rules.specs.{declared.Verdict.the-variants.{Accepted, Refused}, declared.Transfer.Transfer, declared.Thresholds.Thresholds, declared.Security.Security}
 
 -- what a transfer uses; the rest
 pub record TransferPart : Type 0 where

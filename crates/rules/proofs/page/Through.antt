@@ -1,26 +1,16 @@
 -- Where R1, R2 and R3 are not given, the module is its two parts.
 -- Assumes nothing.
 use Prim.Native.Nat.{ℕ}
-use mathlib.Core.Path.{_≡_, refl, sym, ap, _∙_}
-use mathlib.Core.Bool.{Bool, true, false, not, false≢true}
-use mathlib.Core.List.{List, _++_}
+use mathlib.Core.{Path.{_≡_, refl, sym, ap, _∙_}, Bool.{Bool, true, false, not, false≢true}, List.{List, _++_}}
 use lib.ListN.{length}
 use borrow.Author.Tests.{not-true}
-use Rattle.rules.specs.Tests.{if_then_else_, _=?_, _<?_}
-use Rattle.rules.specs.Numbers.{areaSize, answerRoom}
-use Rattle.rules.specs.Record.{possible, Module}
-use Rattle.rules.specs.Refusals.{verdict, eventChecks, oneAttemptMore}
-use Rattle.rules.specs.Table.{rowOf}
-use Rattle.rules.specs.Thresholds.{GetThreshold, SetThreshold}
+use Rattle.rules.specs.{Tests.{if_then_else_, _=?_, _<?_}, Numbers.{areaSize, answerRoom}, Record.{possible, Module}}
+use Rattle.rules.specs.{Refusals.{verdict, eventChecks, oneAttemptMore}, Table.rowOf, Thresholds.{GetThreshold, SetThreshold}}
 use Rattle.rules.specs.Security.{GetSecurityState, SetPassphrase, Disable, Unlock, Freeze}
 use Rattle.rules.specs.Transfer.{TransferCall, GetFwInfo, Start, Send, Finish, Query, transferChecks}
 use Rattle.rules.specs.Module.{Call, OnMask, OnThresholds, OnTransfer, OnSecurity, OnNothing, Event, call, tick, power, checks, acceptedAnswer, outcome, callChecks, callResult, tickResult, powerResult, callIn, step}
-use Rattle.rules.specs.Transfers.{Answer, machine, Exchange, callKind, kindOf, eventKind}
-use Rattle.rules.specs.Demand3.{remains}
-use Rattle.rules.specs.Demand1.{bufferTooShort}
-use Rattle.rules.specs.declared.Refusal.the-variants.{R, Status}
-use Rattle.rules.specs.declared.Verdict.{Verdict}
-use Rattle.rules.specs.declared.Verdict.the-variants.{Accepted, Refused}
+use Rattle.rules.specs.{Transfers.{Answer, machine, Exchange, callKind, kindOf, eventKind}, Demand3.remains, Demand1.bufferTooShort}
+use Rattle.rules.specs.{declared.Refusal.the-variants.{R, Status}, declared.Verdict.Verdict, declared.Verdict.the-variants.{Accepted, Refused}}
 use Rattle.rules.specs.declared.Transfer.{Transfer}
 use Rattle.rules.proofs.page.Passed.{by-rows}
 use Rattle.rules.proofs.page.Split.{partOf, restOf, join, RestCall, Masks, Limits, Locks, Nothing, toCall, act, actOf, unserved?, misfit?, front, answerBy, partAfter, restAfter, restMissed, restChecks, restAnswer, restNext, restPower, answers, nexts, inner, actKind}

@@ -1,14 +1,9 @@
 -- What a match tells: what holds of the function that an arm names holds of the function that was matched.
 -- Assumes nothing.
-use mathlib.Core.Path.{_≡_, sym, _∙_, ap, subst}
-use mathlib.Core.List.{List}
+use mathlib.Core.{Path.{_≡_, sym, _∙_, ap, subst}, List.List}
 use Prim.Native.Nat.{ℕ}
-use Rattle.rules.specs.Refusals.{verdict, answerAfter}
-use Rattle.rules.specs.Record.{Module}
-use Rattle.rules.specs.Module.{callOf, checks, acceptedAnswer, change}
-use Rattle.rules.specs.declared.Verdict.{Verdict}
-use Rattle.rules.specs.declared.Verdict.the-variants.{Accepted}
-use Rattle.rules.specs.declared.Function.{Function}
+use Rattle.rules.specs.{Refusals.{verdict, answerAfter}, Record.Module, Module.{callOf, checks, acceptedAnswer, change}, declared.Verdict.Verdict}
+use Rattle.rules.specs.{declared.Verdict.the-variants.Accepted, declared.Function.Function}
 use Rattle.rules.proofs.page.Fitting.{Fitting}
 
 -- the bytes that the function reads are there

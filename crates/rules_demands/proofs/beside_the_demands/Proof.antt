@@ -1,10 +1,7 @@
 -- `rules_demands::beside_the_demands` meets its contract: it follows from three theorems of rules.
 -- Assumes nothing.
-use Rattle.rules.proofs.page.Area.{area-stays}
-use Rattle.rules.proofs.page.Frozen.{frozen-first}
-use Rattle.rules.proofs.histories.Stage.{taken-over}
-use Rattle.rules_demands.proofs.Beside.{written-out}
-use Rattle.rules_demands.proofs.beside_the_demands.Statement.{statement}
+use Rattle.rules.{proofs.page.Area.area-stays, proofs.page.Frozen.frozen-first, proofs.histories.Stage.taken-over}
+use Rattle.rules_demands.proofs.{Beside.written-out, beside_the_demands.Statement.statement}
 use Rattle.rules_demands.proofs.beside_the_demands.Tie as tie
 
 returns : tie.Need-returns

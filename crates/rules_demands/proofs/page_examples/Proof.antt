@@ -1,7 +1,6 @@
 -- `rules_demands::page_examples` meets its contract, by computation over the definitions.
 -- Assumes nothing.
-use Rattle.rules_demands.proofs.Examples.{cases-held, texts-held}
-use Rattle.rules_demands.proofs.page_examples.Statement.{statement}
+use Rattle.rules_demands.proofs.{Examples.{cases-held, texts-held}, page_examples.Statement.statement}
 use Rattle.rules_demands.proofs.page_examples.Tie as tie
 
 returns : tie.Need-returns

@@ -1,9 +1,8 @@
 -- `security_answers::state_byte` meets its contract. Four flags that are shifted apart add up to the byte.
 -- Assumes nothing.
 use lib.Dec.{eqb}
-use Rattle.security_answers.proofs.Bits.{bits-or}
+use Rattle.security_answers.proofs.{Bits.bits-or, state_byte.Statement.statement}
 use borrow.Author.Needs.{needs}
-use Rattle.security_answers.proofs.state_byte.Statement.{statement}
 use Rattle.security_answers.proofs.state_byte.Tie as tie
 
 returns : tie.Need-returns

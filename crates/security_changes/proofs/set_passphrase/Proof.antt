@@ -1,7 +1,6 @@
 -- `security_changes::set_passphrase` meets its contract. Thirty-two bytes copied over thirty-two zeros are those bytes.
 -- Assumes nothing.
-use mathlib.Core.Path.{_∙_}
-use mathlib.Core.Bool.{true}
+use mathlib.Core.{Path._∙_, Bool.true}
 use native.Mathlib.Omega.{arith}
 use lib.ListN.{replicate}
 use Rattle.rules.specs.With.{_with-enabled_, _with-passphrase_}

@@ -2,9 +2,7 @@
 use mathlib.Core.Path.{_∙_}
 use native.Mathlib.Omega.{arith}
 use borrow.Author.Needs.{needs}
-use Rattle.text.proofs.Writing.{rewrote, wrote-byte}
-use Rattle.text.proofs.Decimal.{at-most-20, decimal-digits, decimal-digit}
-use Rattle.text.proofs.put_decimal.Statement.{statement}
+use Rattle.text.proofs.{Writing.{rewrote, wrote-byte}, Decimal.{at-most-20, decimal-digits, decimal-digit}, put_decimal.Statement.statement}
 use Rattle.text.proofs.put_decimal.Tie as tie
 
 one-digit : tie.Need-returns

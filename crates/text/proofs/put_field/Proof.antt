@@ -1,8 +1,7 @@
 -- `text::put_field` meets its contract: the text is written where the number ends.
 use native.Mathlib.Omega.{arith}
 use borrow.Author.Needs.{needs}
-use Rattle.text.proofs.Writing.{and-then}
-use Rattle.text.proofs.put_field.Statement.{statement}
+use Rattle.text.proofs.{Writing.and-then, put_field.Statement.statement}
 use Rattle.text.proofs.put_field.Tie as tie
 
 both : tie.Need-returns

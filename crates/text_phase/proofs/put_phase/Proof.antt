@@ -1,8 +1,7 @@
 -- `text_phase::put_phase` meets its contract: each arm's text is the name of its phase.
 use borrow.Author.Needs.{needs}
 use Rattle.rules.specs.declared.Phase.the-variants.{Idle, Receiving, Verifying, Staged, Failed}
-use Rattle.text_phase.proofs.PhaseName.{wrote-name}
-use Rattle.text_phase.proofs.put_phase.Statement.{statement}
+use Rattle.text_phase.proofs.{PhaseName.wrote-name, put_phase.Statement.statement}
 use Rattle.text_phase.proofs.put_phase.Tie as tie
 
 -- three needs of each arm: the phase, the text's length, the room; then for each arm the buffer's length and what was written

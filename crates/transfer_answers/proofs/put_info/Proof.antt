@@ -1,12 +1,10 @@
 -- `transfer_answers::put_info` meets its contract. The seven fields stand in their places over zeros (proofs/Built.antt).
 -- Assumes nothing.
-use mathlib.Core.Path.{_∙_, ap}
-use mathlib.Core.List.{List}
+use mathlib.Core.{Path.{_∙_, ap}, List.List}
 use Prim.Native.Nat.{ℕ}
 use Rattle.rules.specs.Bytes.{splice}
-use Rattle.transfer_answers.proofs.Built.{info-built}
+use Rattle.transfer_answers.proofs.{Built.info-built, put_info.Statement.statement}
 use borrow.Author.Needs.{needs}
-use Rattle.transfer_answers.proofs.put_info.Statement.{statement}
 use Rattle.transfer_answers.proofs.put_info.Tie as tie
 
 returns : tie.Need-returns

@@ -1,12 +1,10 @@
 -- `transfer_changes::send` meets its contract. What acceptance says of the numbers puts the part inside the area, and the part that is lent comes back with the piece in it.
 -- Assumes nothing.
-use mathlib.Core.Path.{_∙_, ap}
-use mathlib.Core.List.{List, []}
+use mathlib.Core.{Path.{_∙_, ap}, List.{List, []}}
 use Prim.Native.Nat.{ℕ, _+_, _-_, _≤_}
 use native.Mathlib.Omega.{arith}
 use lib.ListN.{length, take, drop}
-use Rattle.rules.specs.Bytes.{splice, numberAt}
-use Rattle.rules.proofs.page.Accepted.{SendFits, send-fits}
+use Rattle.rules.{specs.Bytes.{splice, numberAt}, proofs.page.Accepted.{SendFits, send-fits}}
 use Rattle.bytes_base.proofs.Parts.{rest, part-long, lent-copy}
 use borrow.Author.Needs.{needs}
 use Rattle.transfer_changes.proofs.send.Statement.{statement}

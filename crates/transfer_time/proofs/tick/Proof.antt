@@ -2,8 +2,7 @@
 -- Assumes nothing.
 use mathlib.Core.Path.{sym}
 use lib.Seq.{length-take-le}
-use borrow.Author.Tests.{lt-ltb, le-ltb}
-use borrow.Author.Needs.{needs}
+use borrow.{Author.Tests.{lt-ltb, le-ltb}, Author.Needs.needs}
 use Rattle.transfer_time.proofs.tick.Statement.{statement}
 use Rattle.transfer_time.proofs.tick.Tie as tie
 
@@ -17,7 +16,14 @@ slice-aggregate-image : tie.Need-slice-aggregate-image
 slice-aggregate-image c = let k = c .before .before .before .before .before .before .before in sym (length-take-le (k .args .t .received) (k .args .area .now) (k .pre))
 
 returns-3 : tie.Need-returns-3
-returns-3 c = simp (← c .before .before .before .before .before .before .before .phase-number .ensures, c .before .before .before .before .before .before .if1 .left, le-ltb 1 (c .before .before .before .before .before .before .before .before .before .args .t .ticks) (c .before .before .before .before .if2 .left), c .before .image .ensures, c .verified .ensures)
+returns-3 c = simp (
+  ← c .before .before .before .before .before .before .before .phase-number .ensures,
+  c .before .before .before .before .before .before .if1 .left,
+  le-ltb 1
+      (c .before .before .before .before .before .before .before .before .before .args .t .ticks) (c .before .before .before .before .if2 .left),
+  c .before .image .ensures,
+  c .verified .ensures,
+)
 
 -- by search: phase-number-requires, sub-t8, cast-received, image-requires, verified-requires
 pub tick-spec : {M : Type 1} → statement M
