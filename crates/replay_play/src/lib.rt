@@ -111,22 +111,3 @@ pub fn play_entry(
         }
     }
 }
-
-// One record of a log is played on the module, and its line is written.
-pub fn play_record(
-    out: &mut [u8],
-    at: usize,
-    number: u64,
-    d: Device,
-    area: &mut [u8],
-    answer: &mut [u8],
-    bytes: &[u8],
-) -> Played
-    requires { ⌜ at + lineRoom ≤ length (now out) ⌝ }
-    requires { ⌜ length (now answer) ≡ answerRoom ⌝ }
-    ensures { λ r. ⌜ r .at ≤ at + lineRoom ⌝ }
-    ensures { λ r. ⌜ RecordReplayed number (moduleOf d (now (area .entry))) (now (bytes .entry)) (now (out .entry)) at (now (out .exit)) (now (area .exit)) r ⌝ }
-{
-    let entry = log_record::decode(bytes);
-    play_entry(out, at, number, d, area, answer, entry, bytes)
-}
