@@ -21,3 +21,7 @@ pub mod Possible
 -- Demand 1.
 pub mod Given
 pub mod Demand1
+-- Document 02.
+pub mod Counting
+pub mod Reports
+pub mod Sums

@@ -68,3 +68,5 @@ pub mod Moves
 pub mod Demand3
 -- Beside the demands.
 pub mod Beside
+-- Document 02.
+pub mod Report

@@ -129,3 +129,12 @@ pub enum Entry {
     Power,
     Bad,
 }
+
+// A report's counts beside its grid: function 0 calls, which answer a mask; ticks; power cycles; bad records; short tails.
+pub struct Counts {
+    pub masks: u32,
+    pub ticks: u32,
+    pub powers: u32,
+    pub bads: u32,
+    pub shorts: u32,
+}

@@ -2,6 +2,7 @@
 // words and proved from it, so that the gate fails where the theorem says less. Demand 2 is what crates/module promises of the code.
 ghost use Rattle.rules.specs.Demand1.{Demand1};
 ghost use Rattle.rules.specs.Demand3.{Demand3};
+ghost use Rattle.rules.specs.Report.{RequestT01};
 ghost use Rattle.rules_demands.specs.Calls.{Demand1WrittenOut};
 ghost use Rattle.rules_demands.specs.Histories.{Demand3WrittenOut};
 ghost use Rattle.rules_demands.specs.Beside.{BesideWrittenOut};
@@ -28,4 +29,9 @@ pub fn beside_the_demands()
 pub fn page_examples()
     ensures { λ r. ⌜ CasesHeld ⌝ }
     ensures { λ r. ⌜ TextsHeld ⌝ }
+{}
+
+// Document 02, T-01: the report's sums, its order, and the reports of two lists.
+pub fn request_t01()
+    ensures { λ r. ⌜ RequestT01 ⌝ }
 {}
