@@ -32,6 +32,11 @@ keptBy (Refused (Status status ext)) new bytes = if status =? 11 then encodeOf n
 abbrev pub kept : Result → (bytes : List ℕ) → List ℕ
 kept result bytes = keptBy (result .reply .verdict) (result .after .device) bytes
 
+-- what a function leaves: the number that it gives, and the record's bytes at its end
+pub record Leaves (number : ℤ) (bytes : List ℕ) (given : ℤ) (bytes′ : List ℕ) : Type 0 where
+  pub number-is : given ≡ number
+  pub bytes-are : bytes′ ≡ bytes
+
 -- what the work may count on: where no R number was given the record has its bytes, and the length fits the number given
 abbrev pub Sized : Verdict → (bytes : List ℕ) → Type 0
 Sized Accepted bytes = length bytes ≡ encodedSize

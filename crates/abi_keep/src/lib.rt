@@ -5,7 +5,7 @@ ghost use lib.IntN.{pos};
 ghost use lib.ListN.{length};
 ghost use Rattle.rules.specs.Numbers.{answerRoom};
 ghost use Rattle.device_bytes.specs.Encoding.{encodedSize, encodeOf};
-ghost use Rattle.abi_keep.specs.Kept.{refusal, told, keptBy, Keepable};
+ghost use Rattle.abi_keep.specs.Kept.{refusal, told, keptBy, Leaves, Keepable};
 use rules::Device;
 use rules::Refusal;
 use rules::Reply;
@@ -27,7 +27,7 @@ fn length(n: usize) -> i32
 // Writes the record's bytes, and gives the answer's length.
 pub fn write(d: Device, bytes: &mut [u8], n: usize) -> i32
     requires { ⌜ (length (now bytes) ≡ encodedSize) × (n ≤ answerRoom) ⌝ }
-    ensures { λ r. ⌜ (r ≡ pos n) × (now (bytes .exit) ≡ encodeOf d) ⌝ }
+    ensures { λ r. ⌜ Leaves (pos n) (encodeOf d) r (now (bytes .exit)) ⌝ }
 {
     device_encode::put(d, bytes);
     length(n)
@@ -36,7 +36,7 @@ pub fn write(d: Device, bytes: &mut [u8], n: usize) -> i32
 // What the caller is told; and its record, written where the call, tick or power cycle was accepted or an attempt is counted.
 pub fn keep(reply: Reply, d: Device, bytes: &mut [u8]) -> i32
     requires { ⌜ Keepable reply (now bytes) ⌝ }
-    ensures { λ r. ⌜ (r ≡ told reply) × (now (bytes .exit) ≡ keptBy (reply .verdict) d (now (bytes .entry))) ⌝ }
+    ensures { λ r. ⌜ Leaves (told reply) (keptBy (reply .verdict) d (now (bytes .entry))) r (now (bytes .exit)) ⌝ }
 {
     let verdict = reply.verdict;
     match verdict {

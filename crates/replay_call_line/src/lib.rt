@@ -3,7 +3,7 @@ ghost use mathlib.Core.Path.{_≡_};
 ghost use Prim.Native.Nat.{_+_, _≤_};
 ghost use lib.ListN.{length};
 ghost use Rattle.rules.specs.Replay.{printedStatus, printedExt, callLine};
-ghost use Rattle.text.specs.Wrote.{Wrote, lineRoom};
+ghost use Rattle.text.specs.Wrote.{WroteWithin, lineRoom};
 use rules::Refusal;
 use rules::Reply;
 use rules::Verdict;
@@ -35,8 +35,7 @@ fn printed_ext(verdict: Verdict) -> u64
 // The line of a call. Function 0 has no status to print.
 pub fn put_call(out: &mut [u8], at: usize, number: u64, function: u64, reply: Reply) -> usize
     requires { ⌜ at + lineRoom ≤ length (now out) ⌝ }
-    ensures { λ r. ⌜ r ≤ at + lineRoom ⌝ }
-    ensures { λ r. ⌜ Wrote (now (out .entry)) at (callLine number function reply) (now (out .exit)) r ⌝ }
+    ensures { λ r. ⌜ WroteWithin lineRoom (now (out .entry)) at (callLine number function reply) (now (out .exit)) r ⌝ }
 {
     let verdict = reply.verdict;
     let length = reply.length as u64;

@@ -7,6 +7,7 @@ use lib.ListN.{length, take, drop, take-append-drop}
 use Rattle.rules.{specs.Record.Module, specs.Log.{entryOf, recordsIn, recordAt}, specs.declared.Entry.Entry}
 use Rattle.log_reader.{specs.declared.Found.Found, specs.declared.Found.the-variants.Record, specs.declared.Stood.Stood, specs.Reader.stoodAt}
 use Rattle.log_reader.proofs.Places.{at-record, found-record}
+use Rattle.text.specs.Wrote.{lineRoom}
 use Rattle.replay_play.{specs.declared.Played.Played, specs.Replayed.{Replayed, RecordReplayed}}
 use Rattle.replay_log.specs.Places.{PlaceReplayed, foundLine, foundPlayed}
 
@@ -30,10 +31,10 @@ module _ (log : List ℕ) (place : ℕ) where
 
     -- what was found was played
     pub as-found : (number : ℕ) (m : Module) (found : Found) {old new area : List ℕ} {at : ℕ} {p : Played} → stood .found ≡ found
-        → Replayed (foundLine number m found (recordAt log place)) (foundPlayed m found (recordAt log place)) old at new area p
+        → Replayed lineRoom (foundLine number m found (recordAt log place)) (foundPlayed m found (recordAt log place)) old at new area p
         → PlaceReplayed number m log place old at new area p
     as-found number m found {old} {new} {area} {at} {p} told w =
-        subst (λ (f : Found). Replayed (foundLine number m f (recordAt log place)) (foundPlayed m f (recordAt log place)) old at new area p) (sym (at-place told)) w
+        subst (λ (f : Found). Replayed lineRoom (foundLine number m f (recordAt log place)) (foundPlayed m f (recordAt log place)) old at new area p) (sym (at-place told)) w
 
     -- a record that was read was played
     pub as-record : (number : ℕ) (m : Module) {entry : Entry} {old new area : List ℕ} {at : ℕ} {p : Played} → stood .found ≡ Record entry
@@ -43,15 +44,15 @@ module _ (log : List ℕ) (place : ℕ) where
         let says : entry ≡ entryOf (recordAt log place) = found-record log place (at-place told) .1 in
         let here : RecordReplayed number m (recordAt log place) old at new area p = subst (λ (bytes : List ℕ). RecordReplayed number m bytes old at new area p) record-part w in
         as-found number m (Record entry) told
-        (subst (λ (e : Entry). Replayed (foundLine number m (Record e) (recordAt log place)) (foundPlayed m (Record e) (recordAt log place)) old at new area p) (sym says) here)
+        (subst (λ (e : Entry). Replayed lineRoom (foundLine number m (Record e) (recordAt log place)) (foundPlayed m (Record e) (recordAt log place)) old at new area p) (sym says) here)
 
   -- where a record stands, playing what stands there is playing the record
   pub place-record : (number : ℕ) (m : Module) {old new area : List ℕ} {at : ℕ} {p : Played} → place < recordsIn log
       → PlaceReplayed number m log place old at new area p → RecordReplayed number m (recordAt log place) old at new area p
   place-record number m {old} {new} {area} {at} {p} h w =
-      subst (λ (f : Found). Replayed (foundLine number m f (recordAt log place)) (foundPlayed m f (recordAt log place)) old at new area p)
+      subst (λ (f : Found). Replayed lineRoom (foundLine number m f (recordAt log place)) (foundPlayed m f (recordAt log place)) old at new area p)
       (ap (λ (s : Stood). s .found) (at-record log place h)) w
 
 -- at the end there is no line
-pub nothing-written : (out : List ℕ) {m : Module} {at : ℕ} → Replayed [] m out at out (m .area) (record { at = at; device = m .device })
-nothing-written out {at = at} = record { wrote = record { next-is = omega arith; new-is = sym (ap (λ (n : ℕ). take at out ++ drop n out) (add-zero at) ∙ take-append-drop at out) }; module-is = refl }
+pub nothing-written : (out : List ℕ) {m : Module} {most at : ℕ} → Replayed most [] m out at out (m .area) (record { at = at; device = m .device })
+nothing-written out {at = at} = record { within = omega arith; wrote = record { next-is = omega arith; new-is = sym (ap (λ (n : ℕ). take at out ++ drop n out) (add-zero at) ∙ take-append-drop at out) }; module-is = refl }

@@ -5,7 +5,7 @@ use Prim.Native.Nat.{ℕ, zero, suc}
 use lib.ListN.{length-replicate}
 use Rattle.rules.{specs.Numbers.areaSize, specs.Log.recordAt, specs.Replay.{replayStart, moduleAfter}, proofs.page.Past.{NoR, EventPassed}}
 use Rattle.rules.proofs.page.Possible.{possible-fresh}
-use Rattle.replay_play.{specs.Verdicts.recordVerdict, proofs.NoR.no-R}
+use Rattle.replay_step.{specs.Stepped.recordVerdict, proofs.NoR.no-R}
 
 start-sound : EventPassed replayStart
 start-sound = record { whole = length-replicate {A = ℕ} areaSize 0; sound = possible-fresh }

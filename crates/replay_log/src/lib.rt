@@ -25,7 +25,6 @@ pub fn play_at(
 ) -> Played
     requires { ⌜ at + lineRoom ≤ length (now out) ⌝ }
     requires { ⌜ length (now answer) ≡ answerRoom ⌝ }
-    ensures { λ r. ⌜ r .at ≤ at + lineRoom ⌝ }
     ensures { λ r. ⌜ PlaceReplayed number (moduleOf d (now (area .entry))) (now (log .entry)) place (now (out .entry)) at (now (out .exit)) (now (area .exit)) r ⌝ }
 {
     let stood = log_reader::read_at(log, place);
@@ -59,8 +58,7 @@ pub fn put_lines(
     requires { ⌜ recordsIn (now part) * lineRoom ≤ length (now out) ⌝ }
     requires { ⌜ number + recordsIn (now part) < 2 ^ 64 ⌝ }
     requires { ⌜ length (now answer) ≡ answerRoom ⌝ }
-    ensures { λ r. ⌜ r .at ≤ recordsIn (now (part .entry)) * lineRoom ⌝ }
-    ensures { λ r. ⌜ PartReplayed number (moduleOf d (now (area .entry))) (now (part .entry)) (now (out .entry)) (now (out .exit)) (now (area .exit)) r ⌝ }
+    ensures { λ r. ⌜ PartReplayed (recordsIn (now (part .entry)) * lineRoom) number (moduleOf d (now (area .entry))) (now (part .entry)) (now (out .entry)) (now (out .exit)) (now (area .exit)) r ⌝ }
 {
     let count = part.len() / LOG_RECORD;
     let mut played = Played { at: 0, device: d };

@@ -1,4 +1,2 @@
-pub mod AnyBuffer
-pub mod Steps
-pub mod NoR
+pub mod Lines
 pub mod Agree

@@ -12,6 +12,10 @@ use Rattle.replay_log.specs.Places.{partPlayed}
 use Rattle.replay_log.specs.InParts.{logOf, Whole}
 use Rattle.program_logs.specs.declared.{Turn.Turn, Turn.the-variants.{Beginning, Part, End, Unreadable, Nothing}}
 
+-- the room for the text of a turn: 120 lines of at most 96 bytes, in whole pages of 4,096
+abbrev pub textRoom : ℕ
+textRoom = 12288
+
 -- a log begins with the heading; each part has its records' lines, and the end the line of a short tail and the last line
 abbrev pub turnText : Turn → (number : ℕ) → Module → (part : List ℕ) → List ℕ
 turnText Beginning number m part = heading
@@ -29,7 +33,7 @@ turned Unreadable m part = m
 turned Nothing m part = m
 
 abbrev pub TurnReplayed : Turn → (number : ℕ) → Module → (part old new area : List ℕ) → Played → Type 0
-TurnReplayed turn number m part old new area played = Replayed (turnText turn number m part) (turned turn m part) old 0 new area played
+TurnReplayed turn number m part old new area played = Replayed textRoom (turnText turn number m part) (turned turn m part) old 0 new area played
 
 -- The text of a log that is read in these parts and a last one: what is written turn by turn, joined.
 abbrev pub partsText : (number : ℕ) → Module → (parts : List (List ℕ)) (last : List ℕ) → List ℕ

@@ -6,12 +6,12 @@ ghost use mathlib.Core.List.{_++_};
 ghost use lib.ListN.{length, take};
 ghost use Rattle.rules.specs.Numbers.{answerRoom};
 ghost use Rattle.rules.specs.Replay.{replayStart, heading, tailLine, lastLine};
-ghost use Rattle.text.specs.Wrote.{Wrote};
+ghost use Rattle.text.specs.Wrote.{WroteWithin};
 ghost use Rattle.rules.specs.Record.{moduleOf};
 ghost use Rattle.replay_play.specs.Replayed.{Replayed};
 ghost use Rattle.replay_log.specs.Places.{PartReplayed};
 ghost use Rattle.program_logs.specs.Turns.{Standing, partSize};
-ghost use Rattle.replays.specs.Turned.{TurnReplayed};
+ghost use Rattle.replays.specs.Turned.{textRoom, TurnReplayed};
 use program_files::PART;
 use program_logs::Logs;
 use program_logs::NAME;
@@ -26,8 +26,7 @@ const TEXT: usize = 12288;
 
 // A log begins with a fresh module and an area of zeros.
 fn begin(out: &mut [u8; TEXT], area: &mut [u8; AREA_SIZE]) -> Played
-    ensures { λ r. ⌜ r .at ≤ 12288 ⌝ }
-    ensures { λ r. ⌜ Replayed heading replayStart (now (out .entry)) 0 (now (out .exit)) (now (area .exit)) r ⌝ }
+    ensures { λ r. ⌜ Replayed textRoom heading replayStart (now (out .entry)) 0 (now (out .exit)) (now (area .exit)) r ⌝ }
 {
     *area = [0u8; AREA_SIZE];
     let at = replay_lines::put_heading(out, 0);
@@ -49,17 +48,15 @@ fn put_part(
 ) -> Played
     requires { ⌜ (have ≤ partSize) × (have ≤ length (now buf)) ⌝ }
     requires { ⌜ number ≤ 9000000000000000000 ⌝ }
-    requires { ⌜ (12288 ≤ length (now out)) × (length (now answer) ≡ answerRoom) ⌝ }
-    ensures { λ r. ⌜ r .at ≤ 12288 ⌝ }
-    ensures { λ r. ⌜ PartReplayed number (moduleOf d (now (area .entry))) (take have (now (buf .entry))) (now (out .entry)) (now (out .exit)) (now (area .exit)) r ⌝ }
+    requires { ⌜ (textRoom ≤ length (now out)) × (length (now answer) ≡ answerRoom) ⌝ }
+    ensures { λ r. ⌜ PartReplayed textRoom number (moduleOf d (now (area .entry))) (take have (now (buf .entry))) (now (out .entry)) (now (out .exit)) (now (area .exit)) r ⌝ }
 {
     replay_log::put_lines(out, &buf[0..have], number, d, area, answer)
 }
 
 // The line of a short tail, if there is one, and the last line.
 fn put_end(out: &mut [u8; TEXT], number: u64, short: bool, d: Device) -> usize
-    ensures { λ r. ⌜ r ≤ 12288 ⌝ }
-    ensures { λ r. ⌜ Wrote (now (out .entry)) 0 (tailLine number short ++ lastLine d) (now (out .exit)) r ⌝ }
+    ensures { λ r. ⌜ WroteWithin textRoom (now (out .entry)) 0 (tailLine number short ++ lastLine d) (now (out .exit)) r ⌝ }
 {
     if short {
         let tail = replay_lines::put_tail(out, 0, number);
@@ -78,7 +75,6 @@ fn turn(
     answer: &mut [u8; ANSWER_ROOM],
 ) -> Played
     requires { ⌜ Standing logs ⌝ }
-    ensures { λ r. ⌜ r .at ≤ 12288 ⌝ }
     ensures { λ r. ⌜ TurnReplayed (logs .turn) (logs .number) (moduleOf d (now (area .entry))) (take (logs .have) (now (buf .entry))) (now (out .entry)) (now (out .exit)) (now (area .exit)) r ⌝ }
 {
     let turn = logs.turn;
@@ -95,7 +91,7 @@ fn turn(
 }
 
 fn show(logs: Logs, out: &[u8; TEXT], end: usize) -> Logs
-    requires { ⌜ Standing logs × (end ≤ 12288) ⌝ }
+    requires { ⌜ Standing logs × (end ≤ textRoom) ⌝ }
     ensures { λ r. ⌜ Standing r × (r .left ≡ logs .left) ⌝ }
 {
     program_logs::show(logs, out, end)

@@ -1,7 +1,7 @@
 -- What it is to write a text at a place.
 -- Assumes nothing.
 use mathlib.Core.{Path._≡_, List.List}
-use Prim.Native.Nat.{ℕ, _+_}
+use Prim.Native.Nat.{ℕ, _+_, _≤_}
 use lib.ListN.{length}
 use Rattle.rules.specs.Bytes.{splice}
 
@@ -13,3 +13,8 @@ lineRoom = 96
 pub record Wrote (old : List ℕ) (at : ℕ) (text new : List ℕ) (next : ℕ) : Type 0 where
   pub next-is : next ≡ at + length text
   pub new-is : new ≡ splice at text old
+
+-- The same, where the text took no more room than so much.
+pub record WroteWithin (most : ℕ) (old : List ℕ) (at : ℕ) (text new : List ℕ) (next : ℕ) : Type 0 where
+  pub within : next ≤ at + most
+  pub wrote : Wrote old at text new next

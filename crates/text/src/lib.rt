@@ -3,7 +3,7 @@ ghost use mathlib.Core.List.{_++_};
 ghost use Prim.Native.Nat.{_+_, _≤_};
 ghost use lib.ListN.{length};
 ghost use Rattle.rules.specs.Text.{decimal};
-ghost use Rattle.text.specs.Wrote.{Wrote};
+ghost use Rattle.text.specs.Wrote.{Wrote, WroteWithin};
 
 pub fn put(out: &mut [u8], at: usize, text: &[u8]) -> usize
     requires { ⌜ at + length (now text) ≤ length (now out) ⌝ }
@@ -16,8 +16,7 @@ pub fn put(out: &mut [u8], at: usize, text: &[u8]) -> usize
 // A number in decimal, which takes at most 20 digits. Most numbers of a replay have one digit, so that one is written at once.
 pub fn put_decimal(out: &mut [u8], at: usize, n: u64) -> usize
     requires { ⌜ at + 20 ≤ length (now out) ⌝ }
-    ensures { λ r. ⌜ r ≤ at + 20 ⌝ }
-    ensures { λ r. ⌜ Wrote (now (out .entry)) at (decimal n) (now (out .exit)) r ⌝ }
+    ensures { λ r. ⌜ WroteWithin 20 (now (out .entry)) at (decimal n) (now (out .exit)) r ⌝ }
 {
     if n < 10 {
         out[at] = 48 + n as u8;
@@ -31,8 +30,7 @@ pub fn put_decimal(out: &mut [u8], at: usize, n: u64) -> usize
 // A number in decimal, and the text after it.
 pub fn put_field(out: &mut [u8], at: usize, n: u64, after: &[u8]) -> usize
     requires { ⌜ at + 20 + length (now after) ≤ length (now out) ⌝ }
-    ensures { λ r. ⌜ r ≤ at + 20 + length (now (after .entry)) ⌝ }
-    ensures { λ r. ⌜ Wrote (now (out .entry)) at (decimal n ++ now (after .entry)) (now (out .exit)) r ⌝ }
+    ensures { λ r. ⌜ WroteWithin (20 + length (now (after .entry))) (now (out .entry)) at (decimal n ++ now (after .entry)) (now (out .exit)) r ⌝ }
 {
     let behind = put_decimal(out, at, n);
     put(out, behind, after)

@@ -5,7 +5,7 @@ use Prim.Native.Nat.{ℕ, _≤_, _+_}
 use native.Mathlib.Omega.{arith}
 use lib.ListN.{length}
 use Rattle.rules.{specs.Text.ascii, specs.Replay.phaseName, specs.declared.Phase.Phase, specs.declared.Phase.the-variants.{Idle, Receiving, Verifying, Staged, Failed}}
-use Rattle.text.{specs.Wrote.Wrote, proofs.Writing.rewrote}
+use Rattle.text.{specs.Wrote.{Wrote, WroteWithin}, proofs.Writing.rewrote}
 
 short-name : (p : Phase) → length (ascii (phaseName p)) ≤ 9
 short-name Idle = omega arith
@@ -15,6 +15,6 @@ short-name Staged = omega arith
 short-name Failed = omega arith
 
 pub wrote-name : {old new : List ℕ} {at i : ℕ} {p : Phase} (q : Phase) → p ≡ q → Wrote old at (ascii (phaseName q)) new i
-    → (i ≤ at + 9) × Wrote old at (ascii (phaseName p)) new i
+    → WroteWithin 9 old at (ascii (phaseName p)) new i
 wrote-name q e w =
-    (omega (arith, short-name q, w .next-is), rewrote (ap (λ (x : Phase). ascii (phaseName x)) (sym e)) w)
+    record { within = omega (arith, short-name q, w .next-is); wrote = rewrote (ap (λ (x : Phase). ascii (phaseName x)) (sym e)) w }

@@ -3,14 +3,13 @@ ghost use Prim.Native.Nat.{_+_, _≤_};
 ghost use lib.ListN.{length};
 ghost use Rattle.rules.specs.Text.{ascii};
 ghost use Rattle.rules.specs.Replay.{phaseName};
-ghost use Rattle.text.specs.Wrote.{Wrote};
+ghost use Rattle.text.specs.Wrote.{WroteWithin};
 use rules::Phase;
 
 // The name takes at most 9 letters.
 pub fn put_phase(out: &mut [u8], at: usize, phase: Phase) -> usize
     requires { ⌜ at + 9 ≤ length (now out) ⌝ }
-    ensures { λ r. ⌜ r ≤ at + 9 ⌝ }
-    ensures { λ r. ⌜ Wrote (now (out .entry)) at (ascii (phaseName phase)) (now (out .exit)) r ⌝ }
+    ensures { λ r. ⌜ WroteWithin 9 (now (out .entry)) at (ascii (phaseName phase)) (now (out .exit)) r ⌝ }
 {
     match phase {
         Phase::Idle => text::put(out, at, b"idle"),

@@ -4,7 +4,8 @@ ghost use Prim.Native.Nat.{_≤_};
 ghost use lib.ListN.{length};
 ghost use Rattle.rules.specs.Numbers.{areaSize};
 ghost use Rattle.rules.specs.Refusals.{verdict};
-ghost use Rattle.rules.specs.Transfer.{Start, sendOf, finishOf, startChecks, transferChecks, transferChange, transferArea};
+ghost use Rattle.rules.specs.Transfer.{Start, sendOf, finishOf, startChecks, transferChecks, transferChange};
+ghost use Rattle.transfer_changes.specs.Sent.{Sent};
 use rules::Phase;
 use rules::Transfer;
 use rules::Verdict;
@@ -26,8 +27,7 @@ pub fn send(t: Transfer, area: &mut [u8], request: &[u8]) -> Transfer
     requires { ⌜ length (now area) ≡ areaSize ⌝ }
     requires { ⌜ 12 ≤ length (now request) ⌝ }
     requires { ⌜ verdict (transferChecks t (sendOf (now request))) ≡ Verdict.Accepted ⌝ }
-    ensures { λ r. ⌜ r ≡ transferChange t (sendOf (now (request .entry))) ⌝ }
-    ensures { λ r. ⌜ now (area .exit) ≡ transferArea (sendOf (now (request .entry))) (now (area .entry)) ⌝ }
+    ensures { λ r. ⌜ Sent t (sendOf (now (request .entry))) (now (area .entry)) r (now (area .exit)) ⌝ }
 {
     let offset = bytes_numbers::word(request, 4) as usize;
     let size = bytes_numbers::word(request, 8);

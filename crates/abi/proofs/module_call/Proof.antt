@@ -22,7 +22,7 @@ returns c =
     let e = m .before .before .before in
     let a = e .before .before .before .before .before .before .args in
     let by : Device → Result = λ (d : Device). callResult (moduleOf d (a .area .now)) (a .revision) (a .function) (a .request .now) (a .answer .now) in
-    called (by (decodeOf (a .bytes .now))) (a .bytes .now) (of-decoded by (e .decode .ensures) (m .call .ensures)) (passed-on (k .keep .ok) (k .keep .ensures .0), k .keep .ensures .1)
+    called (by (decodeOf (a .bytes .now))) (a .bytes .now) (of-decoded by (e .decode .ensures) (m .call .ensures)) (passed-on (k .keep .ok) (k .keep .ensures .number-is), k .keep .ensures .bytes-are)
 
 -- by search: decode-requires, call-requires, same-length, same-length-2, same-length-3
 pub module-call-spec : {M : Type 1} → statement M

@@ -13,7 +13,7 @@ returns c = not-made (c .before .before .args .bytes .now) (c .if1 .taken)
 returns-2 : tie.Need-returns-2
 returns-2 c =
     let w = c .before .before .write in
-    made (c .before .before .before .before .before .before .before .args .bytes .now) (c .before .before .before .before .before .if1 .left) (passed-on (w .ok) (w .ensures .0)) (w .ensures .1 ∙ ap encodeOf (c .before .before .before .before .fresh .ensures))
+    made (c .before .before .before .before .before .before .before .args .bytes .now) (c .before .before .before .before .before .if1 .left) (passed-on (w .ok) (w .ensures .number-is)) (w .ensures .bytes-are ∙ ap encodeOf (c .before .before .before .before .fresh .ensures))
 
 -- by search: fresh-requires, write-requires, same-length
 pub module-fresh-spec : {M : Type 1} → statement M

@@ -19,7 +19,7 @@ returns c =
     let k = c .before .before .keep in
     occurred (tickResult (moduleOf (decodeOf (a .bytes .now)) (a .area .now))) (a .bytes .now)
     (of-decoded (λ (d : Device). tickResult (moduleOf d (a .area .now))) (c .before .before .before .before .before .decode .ensures) (c .before .before .before .before .tick .ensures))
-    (passed-on (k .ok) (k .ensures .0), k .ensures .1)
+    (passed-on (k .ok) (k .ensures .number-is), k .ensures .bytes-are)
 
 -- by search: decode-requires, tick-requires, same-length
 pub module-tick-spec : {M : Type 1} → statement M

@@ -31,15 +31,15 @@ returns c =
     let m = r .before .before .before in
     let a = m .before .before .before .args in
     let refused = m .verdict .given .1 ∙ ap Refused (r .reason2 .given .1) in
-    settled _ (a .reply) (a .d) (a .bytes .now) refused (passed-on (w .write2 .ok) (w .write2 .ensures .0))
-    (counted (r .reason2 .given .0 .0) (r .reason2 .given .0 .1 .0) (a .d) (a .bytes .now) (f .if1 .taken) (w .write2 .ensures .1))
+    settled _ (a .reply) (a .d) (a .bytes .now) refused (passed-on (w .write2 .ok) (w .write2 .ensures .number-is))
+    (counted (r .reason2 .given .0 .0) (r .reason2 .given .0 .1 .0) (a .d) (a .bytes .now) (f .if1 .taken) (w .write2 .ensures .bytes-are))
 
 returns-2 : tie.Need-returns-2
 returns-2 c =
     let w = c .before .before in
     let m = w .before .before in
     let a = m .before .before .before .args in
-    settled _ (a .reply) (a .d) (a .bytes .now) (m .enum-told .given .1) (passed-on (w .write .ok) (w .write .ensures .0)) (w .write .ensures .1)
+    settled _ (a .reply) (a .d) (a .bytes .now) (m .enum-told .given .1) (passed-on (w .write .ok) (w .write .ensures .number-is)) (w .write .ensures .bytes-are)
 
 returns-3 : tie.Need-returns-3
 returns-3 c =

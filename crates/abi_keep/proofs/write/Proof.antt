@@ -5,7 +5,7 @@ use borrow.Author.Needs.{needs}
 use Rattle.abi_keep.proofs.write.Tie as tie
 
 returns : tie.Need-returns
-returns c = (passed-on (c .length .ok) (c .length .ensures), c .before .before .before .put .ensures)
+returns c = record { number-is = passed-on (c .length .ok) (c .length .ensures); bytes-are = c .before .before .before .put .ensures }
 
 -- by search: put-requires, length-requires, same-length
 pub write-spec : {M : Type 1} → statement M

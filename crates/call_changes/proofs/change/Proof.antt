@@ -61,7 +61,7 @@ returns-5 c =
     let m = moduleOf (a .d) (a .area .now) in
     let s = c .before .before .before in
     changed m (a .revision) (a .request .now) (s .before .before .enum-told5 .given .1)
-    (λ i. moduleOf ((c .with-transfer2 .ensures ∙ ap (λ (x : Transfer). a .d with-transfer x) (s .send .ensures .0)) i) (s .send .ensures .1 i))
+    (λ i. moduleOf ((c .with-transfer2 .ensures ∙ ap (λ (x : Transfer). a .d with-transfer x) (s .send .ensures .transfer-is)) i) (s .send .ensures .area-is i))
 
 returns-6 : tie.Need-returns-6
 returns-6 c =

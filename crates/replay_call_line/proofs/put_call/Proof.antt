@@ -12,7 +12,10 @@ of-0 c =
     let a = start .args in
     let p1 = first .put-field .ensures in
     let p2 = c .before .before .put-field2 .ensures in
-    (omega (arith, p1 .0, p2 .0), rewrote (line-of-0 (a .number) (a .function) (a .reply) (first .before .before .before .if1 .taken)) (and-then (omega (arith, start .pre)) (p1 .1) (p2 .1)))
+    record {
+      within = omega (arith, p1 .within, p2 .within);
+      wrote = rewrote (line-of-0 (a .number) (a .function) (a .reply) (first .before .before .before .if1 .taken)) (and-then (omega (arith, start .pre)) (p1 .wrote) (p2 .wrote));
+    }
 
 of-other : tie.Need-returns-2
 of-other c =
@@ -27,7 +30,11 @@ of-other c =
     let p3 = third .put-field5 .ensures in
     let p4 = c .before .before .put-field6 .ensures in
     let line = line-of-other (a .number) (a .function) (a .reply) (asked .before .before .if1 .left) (asked .before .printed-status .ensures) (asked .printed-ext .ensures) in
-    (omega (arith, p1 .0, p2 .0, p3 .0, p4 .0), rewrote line (and-then (omega (arith, start .pre)) (and-then (omega (arith, start .pre)) (and-then (omega (arith, start .pre)) (p1 .1) (p2 .1)) (p3 .1)) (p4 .1)))
+    record {
+      within = omega (arith, p1 .within, p2 .within, p3 .within, p4 .within);
+      wrote = rewrote line
+          (and-then (omega (arith, start .pre)) (and-then (omega (arith, start .pre)) (and-then (omega (arith, start .pre)) (p1 .wrote) (p2 .wrote)) (p3 .wrote)) (p4 .wrote));
+    }
 
 -- what the search closes: the texts' lengths and the room of each field, and the buffer's length at the end
 pub put-call-spec : {M : Type 1} → statement M

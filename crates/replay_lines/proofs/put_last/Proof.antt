@@ -15,7 +15,10 @@ in-a-row c =
     let p2 = second .put-phase .ensures in
     let p3 = third .put2 .ensures in
     let p4 = c .before .before .put-field .ensures in
-    (omega (arith, p1 .next-is, p2 .0, p3 .next-is, p4 .0), and-then (omega (arith, start .pre)) (and-then (omega (arith, start .pre)) (and-then (omega (arith, start .pre)) p1 (p2 .1)) p3) (p4 .1))
+    record {
+      within = omega (arith, p1 .next-is, p2 .within, p3 .next-is, p4 .within);
+      wrote = and-then (omega (arith, start .pre)) (and-then (omega (arith, start .pre)) (and-then (omega (arith, start .pre)) p1 (p2 .wrote)) p3) (p4 .wrote);
+    }
 
 -- what the search closes: the texts' lengths, the room of each part and the count's width, and the buffer's length at the end
 pub put-last-spec : {M : Type 1} → statement M

@@ -10,7 +10,7 @@ use Rattle.replays.proofs.begin.Tie as tie
 returns : tie.Need-returns
 returns c =
     let h = c .before .put-heading .ensures in
-    (omega (arith, h .0), record { wrote = h .1; module-is = ap (λ (d : Device). moduleOf d (zeros areaSize)) (c .fresh .ensures) })
+    record { within = omega (arith, h .within); wrote = h .wrote; module-is = ap (λ (d : Device). moduleOf d (zeros areaSize)) (c .fresh .ensures) }
 
 -- by search: put-heading-requires, fresh-requires
 pub begin-spec : {M : Type 1} → statement M

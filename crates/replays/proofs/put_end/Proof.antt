@@ -13,13 +13,19 @@ returns c =
     let a = c .before .before .before .before .before .args in
     let p = c .before .before .put-tail .ensures in
     let q = c .put-last .ensures in
-    (omega (arith, p .0, q .0), rewrote (sym (ap (λ (b : Bool). tailLine (a .number) b ++ lastLine (a .d)) (c .before .before .before .before .if1 .taken))) (and-then (omega arith) (p .1) (q .1)))
+    record {
+      within = omega (arith, p .within, q .within);
+      wrote = rewrote (sym (ap (λ (b : Bool). tailLine (a .number) b ++ lastLine (a .d)) (c .before .before .before .before .if1 .taken))) (and-then (omega arith) (p .wrote) (q .wrote));
+    }
 
 returns-2 : tie.Need-returns-2
 returns-2 c =
     let a = c .before .before .before .args in
     let q = c .put-last2 .ensures in
-    (omega (arith, q .0), rewrote (sym (ap (λ (b : Bool). tailLine (a .number) b ++ lastLine (a .d)) (c .before .before .if1 .left))) (q .1))
+    record {
+      within = omega (arith, q .within);
+      wrote = rewrote (sym (ap (λ (b : Bool). tailLine (a .number) b ++ lastLine (a .d)) (c .before .before .if1 .left))) (q .wrote);
+    }
 
 -- by search: put-tail-requires, put-last-requires, put-last-requires-2
 pub put-end-spec : {M : Type 1} → statement M

@@ -8,7 +8,7 @@ use Rattle.text.proofs.put_decimal.Tie as tie
 one-digit : tie.Need-returns
 one-digit c =
     let a = c .before .before .args in
-    (omega arith, rewrote (decimal-digit (a .n) (c .if1 .taken)) (wrote-byte (a .out .now) (a .at) _ (omega (arith, c .before .before .pre))))
+    record { within = omega arith; wrote = rewrote (decimal-digit (a .n) (c .if1 .taken)) (wrote-byte (a .out .now) (a .at) _ (omega (arith, c .before .before .pre))) }
 
 room : tie.Need-put-requires
 room c κs =
@@ -20,7 +20,10 @@ digits c =
     let k = c .before .before .before .before .before in
     let few = at-most-20 (k .decimal .result) _ (k .before .before .before .before .fits .n .fits) (k .decimal .ensures .1 .0) in
     let wrote = c .before .before .put .ensures in
-    (omega (arith, few, k .decimal .ensures .0, wrote .next-is), rewrote (k .decimal .ensures .1 .1 ∙ decimal-digits (k .decimal .result) _ few (k .decimal .ensures .1 .0)) wrote)
+    record {
+      within = omega (arith, few, k .decimal .ensures .0, wrote .next-is);
+      wrote = rewrote (k .decimal .ensures .1 .1 ∙ decimal-digits (k .decimal .result) _ few (k .decimal .ensures .1 .0)) wrote;
+    }
 
 pub put-decimal-spec : {M : Type 1} → statement M
 put-decimal-spec =

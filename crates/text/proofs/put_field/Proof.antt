@@ -9,7 +9,7 @@ both c =
     let k = c .before .before .before .before .before .before in
     let number = k .put-decimal .ensures in
     let wrote = c .before .before .put .ensures in
-    (omega (arith, number .0, wrote .next-is), and-then (omega (arith, k .before .before .before .before .pre)) (number .1) wrote)
+    record { within = omega (arith, number .within, wrote .next-is); wrote = and-then (omega (arith, k .before .before .before .before .pre)) (number .wrote) wrote }
 
 pub put-field-spec : {M : Type 1} → statement M
 put-field-spec =

@@ -36,12 +36,13 @@ returns c =
     let k = c .before .before .before .before .before .before in
     let a = k .before .before .before .before .args in
     let f = fits k in
-    let h : k .before .word .result + k .word2 .result ≤ length (a .area .now) = omega (arith, k .before .before .before .before .pre .0) in (
-      simp (k .word2 .ensures),
-      lent-copy (k .before .word .result) (k .word2 .result) (a .area .now) _ h (drop 12 (a .request .now)) (omega arith)
+    let h : k .before .word .result + k .word2 .result ≤ length (a .area .now) = omega (arith, k .before .before .before .before .pre .0) in
+    record {
+      transfer-is = simp (k .word2 .ensures);
+      area-is = lent-copy (k .before .word .result) (k .word2 .result) (a .area .now) _ h (drop 12 (a .request .now)) (omega arith)
           (c .before .before .before .copy .ensures ∙ ap (λ (z : List ℕ). splice 0 z (take (k .before .word .result + k .word2 .result - k .before .word .result) (drop (k .before .word .result) (a .area .now)))) (rest 12 (a .request .now)))
-          ∙ ap (λ (o : ℕ). splice o (drop 12 (a .request .now)) (a .area .now)) (k .before .word .ensures),
-    )
+          ∙ ap (λ (o : ℕ). splice o (drop 12 (a .request .now)) (a .area .now)) (k .before .word .ensures);
+    }
 
 -- by search: word-requires, cast-offset, word-requires-2, cast-end, add-end, sub-copy, part-copy-start, sub-copy-2, part-copy-start-2,
 -- part-copy-end-2, same-length

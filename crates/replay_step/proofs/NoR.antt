@@ -6,7 +6,7 @@ use Rattle.rules.{specs.Bytes.zeros, specs.Numbers.answerRoom, specs.Record.Mod
 use Rattle.rules.{specs.Replay.{played, recordPlayed}, specs.Demand1.bufferTooShort, specs.declared.Refusal.the-variants.{R, Status}, specs.declared.Verdict.Verdict}
 use Rattle.rules.{specs.declared.Verdict.the-variants.{Accepted, Refused}, specs.declared.Entry.Entry, specs.declared.Entry.the-variants.{Call, Tick, Power, Bad}}
 use Rattle.rules.{proofs.page.Past.{NoR, EventPassed}, proofs.page.Possible.{possible-next, area-next, only-R1}}
-use Rattle.replay_play.specs.Verdicts.{entryVerdict, recordVerdict}
+use Rattle.replay_step.specs.Stepped.{entryReply, recordVerdict}
 
 event-sound : (m : Module) (event : Event) → bufferTooShort event ≡ false → EventPassed m
     → EventPassed (step m event .after) × NoR (step m event .reply .verdict)
@@ -24,7 +24,7 @@ event-sound m event room s = (
 pub no-R : (m : Module) (bytes : List ℕ) → EventPassed m → EventPassed (recordPlayed m bytes) × NoR (recordVerdict m bytes)
 no-R m bytes s = go (entryOf bytes)
   where
-    go : (entry : Entry) → EventPassed (played m entry (requestIn bytes)) × NoR (entryVerdict m entry (requestIn bytes))
+    go : (entry : Entry) → EventPassed (played m entry (requestIn bytes)) × NoR (entryReply m entry (requestIn bytes) .verdict)
     go (Call host revision index size) = event-sound m (call host revision index (requestIn bytes) (zeros answerRoom)) refl s
     go Tick = event-sound m tick refl s
     go Power = event-sound m power refl s

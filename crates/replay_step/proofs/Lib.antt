@@ -1,0 +1,4 @@
+pub mod AnyBuffer
+pub mod Steps
+pub mod NoR
+pub mod Agree

@@ -1,0 +1,10 @@
+-- What an accepted Send comes to: the transfer and the area after it.
+-- Assumes nothing.
+use mathlib.Core.{Path._≡_, List.List}
+use Prim.Native.Nat.{ℕ}
+use Rattle.rules.specs.Transfer.{TransferCall, transferChange, transferArea}
+use Rattle.rules.specs.declared.Transfer.{Transfer}
+
+pub record Sent (t : Transfer) (call : TransferCall) (area : List ℕ) (t′ : Transfer) (area′ : List ℕ) : Type 0 where
+  pub transfer-is : t′ ≡ transferChange t call
+  pub area-is : area′ ≡ transferArea call area
