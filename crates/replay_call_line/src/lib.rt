@@ -8,7 +8,8 @@ use rules::Refusal;
 use rules::Reply;
 use rules::Verdict;
 
-fn printed_status(verdict: Verdict) -> u64
+// The status of a call's line; 0 where it was accepted.
+pub fn printed_status(verdict: Verdict) -> u64
     ensures { λ r. ⌜ r ≡ printedStatus verdict ⌝ }
 {
     match verdict {

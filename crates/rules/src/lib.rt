@@ -24,6 +24,9 @@ pub const LOG_RECORD: usize = 544;
 // Request length at most 536.
 pub const LONGEST_REQUEST: u16 = 536;
 
+// The largest count of a report: 4,294,967,295 (document 02, T-01).
+pub const LARGEST_COUNT: u32 = 4294967295;
+
 // The device record's phase.
 pub enum Phase {
     Idle,
