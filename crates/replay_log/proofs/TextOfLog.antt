@@ -6,8 +6,9 @@ use native.Mathlib.Omega.{arith}
 use lib.ListN.{length, length-append}
 use Rattle.rules.{specs.Tests._=?_, specs.Record.Module, specs.Log.{recordsIn, shortTail}}
 use Rattle.rules.specs.Replay.{replayStart, recordLines, moduleAfter, heading, tailLine, lastLine, replayText}
-use Rattle.replay_log.specs.InParts.{logOf, Whole, recordsOver, moduleOver, linesOver, textOver}
-use Rattle.replay_log.proofs.Joined.{module-joined, lines-joined}
+use Rattle.replay_log.specs.InParts.{recordsOver, moduleOver, linesOver, textOver}
+use Rattle.replay_step.{specs.Parts.{logOf, Whole}, proofs.Joined.module-joined}
+use Rattle.replay_log.proofs.Joined.{lines-joined}
 
 module-over : (m : Module) (parts : List (List ℕ)) (tail : List ℕ) → Whole parts → moduleAfter m (logOf parts tail) (recordsOver parts) ≡ moduleOver m parts
 unfolding moduleAfter

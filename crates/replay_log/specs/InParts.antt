@@ -1,22 +1,12 @@
 -- A log that comes in parts: what a program that goes part by part writes for it.
 -- Assumes nothing.
-use mathlib.Core.{Path._≡_, Bool.not, List.{List, [], _∷_, _++_}}
-use Prim.Native.Nat.{ℕ, _+_, _*_}
+use mathlib.Core.{Bool.not, List.{List, [], _∷_, _++_}}
+use Prim.Native.Nat.{ℕ, _+_}
 use lib.ListN.{length}
 use Rattle.rules.specs.Tests.{_=?_}
 use Rattle.rules.specs.Record.{Module}
-use Rattle.rules.specs.Log.{recordSize, recordsIn}
+use Rattle.rules.specs.Log.{recordsIn}
 use Rattle.rules.specs.Replay.{replayStart, recordLines, moduleAfter, heading, tailLine, lastLine}
-
--- the log: its parts, one after the other, and a tail
-abbrev pub logOf : (parts : List (List ℕ)) (tail : List ℕ) → List ℕ
-logOf [] tail = tail
-logOf (part ∷ parts) tail = part ++ logOf parts tail
-
--- each part is whole records
-abbrev pub Whole : (parts : List (List ℕ)) → Type 0
-Whole [] = Unit {0}
-Whole (part ∷ parts) = (length part ≡ recordsIn part * recordSize) × Whole parts
 
 -- the records of all parts
 abbrev pub recordsOver : (parts : List (List ℕ)) → ℕ

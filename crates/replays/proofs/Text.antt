@@ -5,7 +5,8 @@ use mathlib.Core.{Path.{_≡_, refl, sym, _∙_, ap}, Bool.{Bool, not}, List.{Li
 use native.Mathlib.Omega.{arith}
 use lib.ListN.{length, length-append}
 use Rattle.rules.{specs.Tests._=?_, specs.Record.Module, specs.Log.{recordsIn, shortTail}, specs.Replay.{replayStart, moduleAfter, recordLines, heading, tailLine, lastLine, replayText}}
-use Rattle.replay_log.{specs.InParts.{logOf, Whole}, proofs.Joined.{module-joined, lines-joined}}
+use Rattle.replay_step.{specs.Parts.{logOf, Whole}, proofs.Joined.module-joined}
+use Rattle.replay_log.proofs.Joined.{lines-joined}
 use Rattle.replays.specs.Turned.{partsText, turnsText, TextOfTurns}
 
 -- the lines of a log from a number and a module on, its tail's and the last

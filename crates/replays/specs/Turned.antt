@@ -9,7 +9,7 @@ use Rattle.rules.specs.Replay.{replayStart, heading, recordLines, tailLine, las
 use Rattle.replay_play.specs.declared.Played.{Played}
 use Rattle.replay_play.specs.Replayed.{Replayed}
 use Rattle.replay_log.specs.Places.{partPlayed}
-use Rattle.replay_log.specs.InParts.{logOf, Whole}
+use Rattle.replay_step.specs.Parts.{logOf, Whole}
 use Rattle.program_logs.specs.declared.{Turn.Turn, Turn.the-variants.{Beginning, Part, End, Unreadable, Nothing}}
 
 -- the room for the text of a turn: 120 lines of at most 96 bytes, in whole pages of 4,096

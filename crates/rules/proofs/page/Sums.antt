@@ -19,20 +19,20 @@ use Rattle.rules.proofs.page.Reports.{together, shaped-together, is-tog
 use Rattle.rules.specs.declared.Entry.the-variants as Entry′
 
 -- the host of a good call record is 1 to 4
-record GoodHost (host : ℕ) : Type 0 where
-  least : 1 ≤ host
-  most : host ≤ 4
+pub record GoodHost (host : ℕ) : Type 0 where
+  pub least : 1 ≤ host
+  pub most : host ≤ 4
 
 abbrev callOr : (good : Bool) (host revision index size : ℕ) (other : Entry) → Entry
 callOr good host revision index size other = if good then Entry′.Call host revision index size else other
 
-hosts-of : Entry → Type 0
+pub hosts-of : Entry → Type 0
 hosts-of (Entry′.Call host revision index size) = GoodHost host
 hosts-of Entry′.Tick = Unit {0}
 hosts-of Entry′.Power = Unit {0}
 hosts-of Entry′.Bad = Unit {0}
 
-good-hosts : (bytes : List ℕ) → hosts-of (entryOf bytes)
+pub good-hosts : (bytes : List ℕ) → hosts-of (entryOf bytes)
 unfolding entryOf hosts-of
 good-hosts bytes = go (not (length bytes =? recordSize)) (kindIn bytes =? 1 && goodCall bytes) refl (kindIn bytes =? 2 && bare bytes) (kindIn bytes =? 3 && bare bytes)
   where
@@ -85,7 +85,7 @@ small-rows m Unlock revision index request answer = refl
 small-rows m Freeze revision index request answer = refl
 small-rows m Unserved revision index request answer = refl
 
-status-most : (m : Module) (revision index : ℕ) (request : List ℕ) → printedStatus (replayCall m revision index request .reply .verdict) ≤ 11
+pub status-most : (m : Module) (revision index : ℕ) (request : List ℕ) → printedStatus (replayCall m revision index request .reply .verdict) ≤ 11
 unfolding callResult
 status-most m revision index request =
     let answer : List ℕ = zeros answerRoom in
