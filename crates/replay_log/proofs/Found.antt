@@ -2,20 +2,17 @@
 -- Assumes nothing.
 use mathlib.Core.{Path.{_≡_, refl, sym, _∙_, ap, subst}, List.{List, [], _++_}}
 use Prim.Native.Nat.{ℕ, _+_, _-_, _*_, _≤_, _<_}
-use native.Mathlib.{Nat.{add-zero, add-sub-cancel-left}, Omega.arith}
+use native.Mathlib.{Nat.add-zero, Omega.arith}
 use lib.ListN.{length, take, drop, take-append-drop}
 use Rattle.rules.{specs.Record.Module, specs.Log.{entryOf, recordsIn, recordAt}, specs.declared.Entry.Entry}
 use Rattle.log_reader.{specs.declared.Found.Found, specs.declared.Found.the-variants.Record, specs.declared.Stood.Stood, specs.Reader.stoodAt}
 use Rattle.log_reader.proofs.Places.{at-record, found-record}
+use Rattle.replay_step.proofs.Joined.{record-part}
 use Rattle.text.specs.Wrote.{lineRoom}
 use Rattle.replay_play.{specs.declared.Played.Played, specs.Replayed.{Replayed, RecordReplayed}}
 use Rattle.replay_log.specs.Places.{PlaceReplayed, foundLine, foundPlayed}
 
 module _ (log : List ℕ) (place : ℕ) where
-  -- the part of the log that is lent is its record
-  pub record-part : take (place * 544 + 544 - place * 544) (drop (place * 544) log) ≡ recordAt log place
-  record-part = ap (λ (k : ℕ). take k (drop (place * 544) log)) (add-sub-cancel-left (place * 544) 544)
-
   module _ {stood : Stood} (read : stood ≡ stoodAt log place) where
     at-place : {found : Found} → stood .found ≡ found → stoodAt log place .found ≡ found
     at-place told = ap (λ (s : Stood). s .found) (sym read) ∙ told
@@ -27,7 +24,7 @@ module _ (log : List ℕ) (place : ℕ) where
         omega (arith, there)
 
     pub record-says : {entry : Entry} → stood .found ≡ Record entry → entry ≡ entryOf (take (place * 544 + 544 - place * 544) (drop (place * 544) log))
-    record-says told = found-record log place (at-place told) .1 ∙ ap entryOf (sym record-part)
+    record-says told = found-record log place (at-place told) .1 ∙ ap entryOf (sym (record-part log place))
 
     -- what was found was played
     pub as-found : (number : ℕ) (m : Module) (found : Found) {old new area : List ℕ} {at : ℕ} {p : Played} → stood .found ≡ found
@@ -42,7 +39,7 @@ module _ (log : List ℕ) (place : ℕ) where
         → PlaceReplayed number m log place old at new area p
     as-record number m {entry} {old} {new} {area} {at} {p} told w =
         let says : entry ≡ entryOf (recordAt log place) = found-record log place (at-place told) .1 in
-        let here : RecordReplayed number m (recordAt log place) old at new area p = subst (λ (bytes : List ℕ). RecordReplayed number m bytes old at new area p) record-part w in
+        let here : RecordReplayed number m (recordAt log place) old at new area p = subst (λ (bytes : List ℕ). RecordReplayed number m bytes old at new area p) (record-part log place) w in
         as-found number m (Record entry) told
         (subst (λ (e : Entry). Replayed lineRoom (foundLine number m (Record e) (recordAt log place)) (foundPlayed m (Record e) (recordAt log place)) old at new area p) (sym says) here)
 

@@ -1,10 +1,14 @@
 -- A log that is two parts, the first of which is whole records: where each record stands, and the module after them.
 -- Assumes nothing.
 use mathlib.Core.{Path.{_≡_, refl, sym, _∙_, ap}, List.{List, _++_}}
-use Prim.Native.Nat.{ℕ, zero, suc, _≤_, _<_, _+_, _*_}
-use native.Mathlib.{Nat.{add-zero, add-suc, add-mul}, Omega.arith}
+use Prim.Native.Nat.{ℕ, zero, suc, _≤_, _<_, _+_, _-_, _*_}
+use native.Mathlib.{Nat.{add-zero, add-suc, add-mul, add-sub-cancel-left}, Omega.arith}
 use lib.{ListN.{length, take, drop, length-drop}, Seq.{drop-at, drop-drop, take-append-le, drop-append-le}}
 use Rattle.rules.{specs.Record.Module, specs.Log.recordAt, specs.Replay.{recordPlayed, moduleAfter}}
+
+-- the part of a log that is lent for a record is the record
+pub record-part : (log : List ℕ) (place : ℕ) → take (place * 544 + 544 - place * 544) (drop (place * 544) log) ≡ recordAt log place
+record-part log place = ap (λ (k : ℕ). take k (drop (place * 544) log)) (add-sub-cancel-left (place * 544) 544)
 
 module _ (a b : List ℕ) (k : ℕ) (whole : length a ≡ k * 544) where
   -- a record of the second part, and one of the first

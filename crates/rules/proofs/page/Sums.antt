@@ -26,7 +26,7 @@ pub record GoodHost (host : ℕ) : Type 0 where
 abbrev callOr : (good : Bool) (host revision index size : ℕ) (other : Entry) → Entry
 callOr good host revision index size other = if good then Entry′.Call host revision index size else other
 
-pub hosts-of : Entry → Type 0
+unfoldable pub hosts-of : Entry → Type 0
 hosts-of (Entry′.Call host revision index size) = GoodHost host
 hosts-of Entry′.Tick = Unit {0}
 hosts-of Entry′.Power = Unit {0}
