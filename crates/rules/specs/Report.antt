@@ -5,6 +5,7 @@ use Prim.Native.Nat.{ℕ, zero, suc, _+_, _-_}
 use mathlib.Core.{Path._≡_, Bool.{Bool, true, false, _&&_}, List.{List, [], _∷_, _++_}}
 use lib.ListN.{getD, set, replicate}
 use Rattle.rules.specs.Tests.{if_then_else_, _≤?_, _=?_}
+use Rattle.rules.specs.Text.{ascii, decimal, field}
 use Rattle.rules.specs.Record.{Module}
 use Rattle.rules.specs.Log.{entryOf, requestIn, recordsIn, recordAt, shortTail}
 use Rattle.rules.specs.Replay.{replayStart, replayCall, moduleAfter, printedStatus}
@@ -122,6 +123,31 @@ fedNext r log = feed r log .report
 abbrev pub reportOf : (logs : List (List ℕ)) → Report
 reportOf logs = leadsTo fedNext nothingCounted logs
 
+-- What is printed: "status 0 1 2 3 4 5 6 7 8 9 10 11", a line for each host with its counts, then a line for each other count.
+abbrev pub reportHeading : List ℕ
+reportHeading = ascii "status 0 1 2 3 4 5 6 7 8 9 10 11\n"
+
+-- the counts of a row, each after a space
+abbrev pub rowText : List ℕ → List ℕ
+rowText [] = ascii "\n"
+rowText (count ∷ row) = ascii " " ++ decimal count ++ rowText row
+
+-- the rows, the first of which is this host's
+abbrev pub hostLines : (host : ℕ) → List (List ℕ) → List ℕ
+hostLines host [] = []
+hostLines host (row ∷ grid) = ascii "host " ++ decimal host ++ rowText row ++ hostLines (host + 1) grid
+
+abbrev pub countLines : Counts → List ℕ
+countLines c =
+    ascii "function 0 " ++ field (c .masks) "\n"
+    ++ (ascii "ticks " ++ field (c .ticks) "\n")
+    ++ (ascii "power " ++ field (c .powers) "\n")
+    ++ (ascii "bad " ++ field (c .bads) "\n")
+    ++ (ascii "short " ++ field (c .shorts) "\n")
+
+abbrev pub reportText : Report → List ℕ
+reportText r = reportHeading ++ hostLines 1 (r .grid) ++ countLines (r .counts)
+
 -- every log was taken
 abbrev pub AllTaken : (logs : List (List ℕ)) → Type 0
 AllTaken logs = Throughout fedNext (λ r log. feed r log .taken ≡ true) nothingCounted logs
@@ -207,5 +233,7 @@ pub record Reported (logs : List (List ℕ)) : Type 0 where
   pub any-order : (others : List (List ℕ)) → Reordered logs others → AllTaken others × (reportOf others ≡ reportOf logs)
   pub two-lists : (first second : List (List ℕ)) → logs ≡ first ++ second → reportOf logs ≡ reportOf first plus reportOf second
 
-abbrev pub RequestT01 : Type 0
-RequestT01 = (logs : List (List ℕ)) → AllTaken logs → Reported logs
+-- And a refused log changes nothing.
+pub record RequestT01 : Type 0 where
+  pub all-taken : (logs : List (List ℕ)) → AllTaken logs → Reported logs
+  pub one-refused : (r : Report) (log : List ℕ) → feed r log .taken ≡ false → fedNext r log ≡ r

@@ -8,5 +8,7 @@ pub mod Histories
 pub mod Beside
 -- The lists of cases and of texts.
 pub mod Examples
+-- Document 02: reports over logs.
+pub mod Reports
 -- That demand 3 is not empty: the incident at sea, computed.
 pub mod Incident

@@ -6,3 +6,5 @@ pub mod Histories
 pub mod Beside
 -- What the lists of cases and of texts must have.
 pub mod Examples
+-- Document 02: reports over logs.
+pub mod Reports

@@ -7,6 +7,7 @@ ghost use Rattle.rules_demands.specs.Calls.{Demand1WrittenOut};
 ghost use Rattle.rules_demands.specs.Histories.{Demand3WrittenOut};
 ghost use Rattle.rules_demands.specs.Beside.{BesideWrittenOut};
 ghost use Rattle.rules_demands.specs.Examples.{CasesHeld, TextsHeld};
+ghost use Rattle.rules_demands.specs.Reports.{ReportsWrittenOut, ReportsHeld};
 
 // Any call gets an answer, and a refusal leaves what it must.
 pub fn demand_1()
@@ -31,7 +32,9 @@ pub fn page_examples()
     ensures { λ r. ⌜ TextsHeld ⌝ }
 {}
 
-// Document 02, T-01: the report's sums, its order, and the reports of two lists.
+// Document 02, T-01: the report's sums, its order, and the reports of two lists; the same written out; and examples.
 pub fn request_t01()
     ensures { λ r. ⌜ RequestT01 ⌝ }
+    ensures { λ r. ⌜ ReportsWrittenOut ⌝ }
+    ensures { λ r. ⌜ ReportsHeld ⌝ }
 {}

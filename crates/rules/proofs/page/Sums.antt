@@ -1,7 +1,7 @@
 -- Document 02, T-01: "The grid's sum plus the function 0 calls equals the good call records in the logs, counted from the logs themselves."
 -- Assumes nothing.
 use Prim.Native.Nat.{ℕ, zero, suc, _+_, _-_, _≤_, _<_}
-use mathlib.Core.{Path.{_≡_, refl, sym, _∙_, ap, subst}, Bool.{Bool, true, false, not, _&&_}, List.{List, [], _∷_, _++_}}
+use mathlib.Core.{Path.{_≡_, refl, sym, _∙_, ap, subst}, Bool.{Bool, true, false, not, _&&_, true≢false}, List.{List, [], _∷_, _++_}}
 use native.Mathlib.Omega.{arith}
 use lib.ListN.{length, getD, set}
 use borrow.Author.Tests.{leb-true}
@@ -9,7 +9,7 @@ use Rattle.rules.specs.{Tests.{if_then_else_, _≤?_, _=?_}, Bytes.zeros
 use Rattle.rules.specs.Module.{Call, callOf, checks, gateChecks, callChecks, callResult, outcome}
 use Rattle.rules.specs.Log.{recordSize, kindIn, hostIn, revisionIn, functionIn, lengthIn, requestIn, padded, goodCall, bare, entryOf, recordsIn, recordAt, shortTail}
 use Rattle.rules.specs.{Replay.{replayStart, replayCall, moduleAfter, printedStatus}, History.{All, total}}
-use Rattle.rules.specs.Report.{Report, nothingCounted, Counted, answered, masked, countedAs, raisedAt, raisedCell, raised, reportAfter, countTo, ifCall, ifTick, ifPower, ifBad, gridSum, Sums, addedRow, addedGrid, AllTaken, reportOf, RequestT01}
+use Rattle.rules.specs.Report.{Report, nothingCounted, Counted, answered, masked, countedAs, raisedAt, raisedCell, raised, reportAfter, countTo, ifCall, ifTick, ifPower, ifBad, gridSum, Sums, addedRow, addedGrid, withLog, fits, fedIf, feed, fedNext, AllTaken, reportOf, Reported, RequestT01}
 use Rattle.rules.specs.declared.Function.{Function}
 use Rattle.rules.specs.declared.Function.the-variants.{Mask, GetThreshold, GetFwInfo, Start, Send, Finish, Query, SetThreshold, GetSecurityState, SetPassphrase, Disable, Unlock, Freeze, Unserved}
 use Rattle.rules.specs.{declared.Refusal.the-variants.{R, Status}, declared.Verdict.Verdict, declared.Verdict.the-variants.{Accepted, Refused}}
@@ -205,11 +205,22 @@ sums-together (log ∷ logs) =
     }
 
 -- T-01.
-pub request-T01 : RequestT01
-request-T01 logs t =
+reported : (logs : List (List ℕ)) → AllTaken logs → Reported logs
+reported logs t =
     record {
       sums = subst (λ (r : Report). Sums r logs) (sym (is-together logs t)) (sums-together logs);
       any-order = λ others p. any-order logs others t p;
       two-lists = λ first second e.
           ap reportOf e ∙ two-lists first second (subst (λ (l : List (List ℕ)). AllTaken l) e t);
     }
+
+one-refused : (r : Report) (log : List ℕ) → feed r log .taken ≡ false → fedNext r log ≡ r
+unfolding feed
+one-refused r log e = go (fits (withLog r log)) e
+  where
+    go : (fit : Bool) → fedIf fit (withLog r log) r .taken ≡ false → fedIf fit (withLog r log) r .report ≡ r
+    go true e = absurd (true≢false e)
+    go false e = refl
+
+pub request-T01 : RequestT01
+request-T01 = record { all-taken = reported; one-refused = one-refused }

@@ -1,0 +1,28 @@
+-- T-01 written out, from its theorem; its examples, by computation over the definitions.
+-- Assumes nothing.
+use mathlib.Core.{Path.{_≡_, refl, ap}, List.{List, _∷_, _++_}}
+use Prim.Native.Nat.{ℕ}
+use Rattle.rules.{specs.Bytes.{zeros?, same?}, specs.Record.{possible, possibleTransfer, possibleSecurity, possibleThresholds}, specs.Refusals.verdict}
+use Rattle.rules.{specs.Table.{rowOf, fits?, mask}, specs.Image.{sumOfWords, goodRecord, goodRecords, goodImage, imageOf}, specs.Module.{callResult, tickResult, powerResult}}
+use Rattle.rules.{specs.Text.decimal, specs.Log.entryOf, specs.Replay.moduleAfter}
+use Rattle.rules.{specs.Report.{Report, reportAfter, fits, feed, two-swapped}, proofs.page.Sums.request-T01}
+use Rattle.rules_demands.specs.Reports.{ReportsWrittenOut, ReportsHeld}
+
+pub written-out : ReportsWrittenOut
+written-out =
+    record {
+      calls = λ logs t. request-T01 .all-taken logs t .sums .calls;
+      ticks = λ logs t. request-T01 .all-taken logs t .sums .ticks;
+      powers = λ logs t. request-T01 .all-taken logs t .sums .powers;
+      bads = λ logs t. request-T01 .all-taken logs t .sums .bads;
+      shorts = λ logs t. request-T01 .all-taken logs t .sums .shorts;
+      swapped = λ first second logs t. request-T01 .all-taken (first ∷ second ∷ logs) t .any-order (second ∷ first ∷ logs) (two-swapped {logs = logs}) .1;
+      any-order = λ logs others t p. request-T01 .all-taken logs t .any-order others p;
+      grids-add = λ first second t. ap (λ (r : Report). r .grid) (request-T01 .all-taken (first ++ second) t .two-lists first second refl);
+      ticks-add = λ first second t. ap (λ (r : Report). r .counts .ticks) (request-T01 .all-taken (first ++ second) t .two-lists first second refl);
+      refused = request-T01 .one-refused;
+    }
+
+pub reports-held : ReportsHeld
+unfolding zeros? same? possible possibleTransfer possibleSecurity possibleThresholds verdict rowOf fits? mask sumOfWords goodRecord goodRecords goodImage imageOf callResult tickResult powerResult decimal entryOf moduleAfter reportAfter fits feed
+reports-held = record { printed = refl; largest-fits = refl; too-many-first = refl; too-many-fourth = refl }
