@@ -38,6 +38,10 @@ PROGRAMS = {
 }
 
 
+# The files of the independent program that are compiled for it, main's last.
+INDEPENDENT = ("module", "report", "replay")
+
+
 class Unready(Exception):
     """Something that a check needs is not there. The check ends with status 2."""
 
@@ -56,7 +60,7 @@ def independent(folder):
     kit's clang."""
     os.makedirs(folder, exist_ok=True)
     if not shutil.which("cc"):
-        return [*runner(), by_clang(folder, "independent", [("independent/module.c", []), ("independent/replay.c", [])])]
+        return [*runner(), by_clang(folder, "independent", [(f"independent/{name}.c", []) for name in INDEPENDENT])]
     finish([str(ROOT / "tests" / "independent" / "build"), str(folder)])
     return [os.path.join(folder, "independent")]
 
@@ -145,8 +149,8 @@ def by_clang(folder, name, sources, libraries=()):
 def stand_in(name, folder):
     """Builds the independent program as a program of one text: like a proved program it takes logs alone and ends with
     status 0."""
-    return by_clang(folder, PROGRAMS[name].crate, [("independent/module.c", []), ("independent/replay.c", ["-Dmain=independent_main"]),
-                                             ("clang/stand_in.c", [f'-DTEXT="{name}"'])])
+    sources = [(f"independent/{file}.c", ["-Dmain=independent_main"]) for file in INDEPENDENT]
+    return by_clang(folder, PROGRAMS[name].crate, [*sources, ("clang/stand_in.c", [f'-DTEXT="{name}"'])])
 
 
 # ---- Texts ----

@@ -1,28 +1,41 @@
-/* Replays call logs from a fresh module and an area of zeros.
+/* Replays call logs, each from a fresh module and an area of zeros.
  *
  *    independent replay FILE..    the replay text of document 01
  *    independent answers FILE..   every answer's bytes, then the whole end state
+ *    independent report FILE..    one report over all logs: which host got which answers
  */
 #include <stdio.h>
 #include <stdlib.h>
 
 #include "module.h"
+#include "report.h"
 
 /* A log record: kind (1), host (1), revision (2), function (2), request length (2),
  * request padded with zeros. */
 enum {
     LOG_RECORD = 544,
+    HOST_AT = 1,
+    REVISION_AT = 2,
+    FUNCTION_AT = 4,
+    LENGTH_AT = 6,
     REQUEST_AT = 8,
     REQUEST_MOST = LOG_RECORD - REQUEST_AT,
     RECORDS_AT_ONCE = 120
 };
 enum kind { BAD = 0, CALL = 1, TICK = 2, POWER = 3 };
 
+/* Each word of the program: the page's text, the fuller trace, and the counts of all logs. */
+enum text { REPLAY, ANSWERS, REPORT };
+
 struct replay {
-    bool answers; /* the fuller trace */
+    enum text text;
     uint64_t place;
     struct device device;
     uint8_t area[AREA_BYTES];
+    int32_t length; /* of the last call's answer */
+    uint8_t answer[ANSWER_LEAST];
+    uint64_t counts[COUNTS]; /* this log's; a log has fewer records than 64 bits can count */
+    uint32_t report[COUNTS]; /* that of the logs before it */
 };
 
 static const char *const phase_names[] = {"idle", "receiving", "verifying", "staged", "failed"};
@@ -84,11 +97,11 @@ static void write_bytes(const char *name, const uint8_t *bytes, size_t length)
 
 static enum kind kind_of(const uint8_t *record)
 {
-    size_t length = get16(record + 6);
+    size_t length = get16(record + LENGTH_AT);
 
     switch (record[0]) {
     case CALL:
-        if (record[1] < 1 || record[1] > 4 || length > REQUEST_MOST)
+        if (record[HOST_AT] < 1 || record[HOST_AT] > HOSTS || length > REQUEST_MOST)
             return BAD;
         return all_zero(record + REQUEST_AT + length, REQUEST_MOST - length) ? CALL : BAD;
     case TICK:
@@ -109,40 +122,55 @@ static int32_t no_refusal(int32_t result)
     return result;
 }
 
-/* Calls the module and writes the words after the place. */
-static char *call(struct replay *replay, const uint8_t *record, char *at)
+/* Plays a record, and tells its kind. A call's answer is then the replay's. */
+static enum kind play(struct replay *replay, const uint8_t *record)
 {
-    uint8_t answer[ANSWER_LEAST] = {0};
-    uint16_t function = get16(record + 4);
-    int32_t length = no_refusal(
-        device_call(&replay->device, replay->area, AREA_BYTES, get16(record + 2), function,
-                    record + REQUEST_AT, get16(record + 6), answer, sizeof answer));
+    enum kind kind = kind_of(record);
 
-    at = put_text(at, " call ");
-    if (replay->answers)
-        return put_hex(at, answer, (size_t)length);
-    if (function == 0)
-        return put_text(at, "- - 4");
-    at = put_number(at, get16(answer));
-    at = put_number(put_text(at, " "), get16(answer + 2));
-    return put_number(put_text(at, " "), (uint64_t)length);
-}
-
-static void step(struct replay *replay, const uint8_t *record)
-{
-    char line[32 + 2 * ANSWER_LEAST];
-    char *at = put_number(line, replay->place++);
-
-    switch (kind_of(record)) {
+    switch (kind) {
     case CALL:
-        at = call(replay, record, at);
+        replay->length = no_refusal(
+            device_call(&replay->device, replay->area, AREA_BYTES, get16(record + REVISION_AT),
+                        get16(record + FUNCTION_AT), record + REQUEST_AT,
+                        get16(record + LENGTH_AT), replay->answer, sizeof replay->answer));
         break;
     case TICK:
         no_refusal(device_tick(&replay->device, replay->area, AREA_BYTES));
-        at = put_text(at, " tick");
         break;
     case POWER:
         no_refusal(device_power(&replay->device, replay->area, AREA_BYTES));
+        break;
+    case BAD:
+        break;
+    }
+    return kind;
+}
+
+static char *put_answer(const struct replay *replay, const uint8_t *record, char *at)
+{
+    if (replay->text == ANSWERS)
+        return put_hex(at, replay->answer, (size_t)replay->length);
+    if (get16(record + FUNCTION_AT) == 0)
+        return put_text(at, "- - 4");
+    at = put_number(at, get16(replay->answer));
+    at = put_number(put_text(at, " "), get16(replay->answer + 2));
+    return put_number(put_text(at, " "), (uint64_t)replay->length);
+}
+
+/* The line of a record that has been played. */
+static void write_step(const struct replay *replay, const uint8_t *record, enum kind kind)
+{
+    char line[32 + 2 * ANSWER_LEAST];
+    char *at = put_number(line, replay->place);
+
+    switch (kind) {
+    case CALL:
+        at = put_answer(replay, record, put_text(at, " call "));
+        break;
+    case TICK:
+        at = put_text(at, " tick");
+        break;
+    case POWER:
         at = put_text(at, " power");
         break;
     case BAD:
@@ -152,6 +180,34 @@ static void step(struct replay *replay, const uint8_t *record)
     write_line(line, at);
 }
 
+/* Which count a record that has been played raises. */
+static size_t count_of(const struct replay *replay, const uint8_t *record, enum kind kind)
+{
+    switch (kind) {
+    case CALL:
+        if (get16(record + FUNCTION_AT) == 0)
+            return FUNCTION_0;
+        return report_cell(record[HOST_AT], get16(replay->answer));
+    case TICK:
+        return TICKS;
+    case POWER:
+        return POWER_CYCLES;
+    default:
+        return BAD_RECORDS;
+    }
+}
+
+static void step(struct replay *replay, const uint8_t *record)
+{
+    enum kind kind = play(replay, record);
+
+    if (replay->text == REPORT)
+        replay->counts[count_of(replay, record, kind)]++;
+    else
+        write_step(replay, record, kind);
+    replay->place++;
+}
+
 /* ---- One log ---- */
 
 static void begin(struct replay *replay)
@@ -159,8 +215,20 @@ static void begin(struct replay *replay)
     replay->place = 0;
     device_fresh(&replay->device);
     memset(replay->area, 0, AREA_BYTES);
-    if (!replay->answers)
+    if (replay->text == REPLAY)
         fputs("record kind status ext length\n", stdout);
+    if (replay->text == REPORT)
+        memset(replay->counts, 0, sizeof replay->counts);
+}
+
+static void tail(struct replay *replay)
+{
+    char line[32];
+
+    if (replay->text == REPORT)
+        replay->counts[SHORT_TAILS]++;
+    else
+        write_line(line, put_text(put_number(line, replay->place), " short"));
 }
 
 static void write_state(const struct device *device, const uint8_t *area)
@@ -182,22 +250,33 @@ static void write_state(const struct device *device, const uint8_t *area)
     write_bytes("area ", area, AREA_BYTES);
 }
 
-static void end(const struct replay *replay)
+/* What is wrong with a log that was read to its end, or NULL. */
+static const char *end(struct replay *replay)
 {
     const char *phase = phase_names[replay->device.phase];
     char line[48];
+    char *at;
 
-    if (replay->answers) {
+    switch (replay->text) {
+    case REPLAY:
+        at = put_text(put_text(put_text(line, "end "), phase), " ");
+        write_line(line, put_number(at, replay->device.contexts));
+        break;
+    case ANSWERS:
         write_line(line, put_text(put_text(line, "phase "), phase));
         write_state(&replay->device, replay->area);
-    } else {
-        char *at = put_text(put_text(put_text(line, "end "), phase), " ");
-        write_line(line, put_number(at, replay->device.contexts));
+        break;
+    case REPORT:
+        if (!report_add(replay->report, replay->counts))
+            return "log too many";
+        break;
     }
+    return NULL;
 }
 
-/* False if the log cannot be read to its end; then the text stops where reading did. */
-static bool replay_log(struct replay *replay, FILE *log)
+/* What is wrong with the log, or NULL. Of a log that cannot be read to its end the text stops
+ * where reading did, and the report counts nothing. */
+static const char *replay_log(struct replay *replay, FILE *log)
 {
     static uint8_t records[RECORDS_AT_ONCE * LOG_RECORD];
     size_t got;
@@ -206,53 +285,92 @@ static bool replay_log(struct replay *replay, FILE *log)
     do {
         got = fread(records, 1, sizeof records, log);
         if (ferror(log))
-            return false;
+            return "cannot be read";
         if (!begun)
             begin(replay);
         begun = true;
         for (size_t at = 0; at + LOG_RECORD <= got; at += LOG_RECORD)
             step(replay, records + at);
     } while (got == sizeof records);
-    if (got % LOG_RECORD != 0) {
-        char line[32];
-        write_line(line, put_text(put_number(line, replay->place), " short"));
-    }
-    end(replay);
-    return true;
+    if (got % LOG_RECORD != 0)
+        tail(replay);
+    return end(replay);
 }
 
+/* Whether the log was taken. */
 static bool replay_file(struct replay *replay, const char *name)
 {
     bool standard = strcmp(name, "-") == 0;
     FILE *log = standard ? stdin : fopen(name, "rb");
-    bool good = log != NULL && replay_log(replay, log);
+    const char *wrong = log != NULL ? replay_log(replay, log) : "cannot be read";
 
-    if (!good) {
+    if (wrong != NULL) {
         fflush(stdout);
-        fprintf(stderr, "independent: %s: cannot be read\n", name);
+        fprintf(stderr, "independent: %s: %s\n", name, wrong);
     }
     if (log != NULL && !standard)
         fclose(log);
-    return good;
+    return wrong == NULL;
+}
+
+/* ---- The program's words ---- */
+
+/* Whether the text is a decimal number, and at most `most`. */
+static bool get_number(const char *text, uint64_t most, uint64_t *number)
+{
+    *number = 0;
+    if (*text == 0)
+        return false;
+    for (; *text != 0; text++) {
+        if (*text < '0' || *text > '9')
+            return false;
+        uint64_t digit = (uint64_t)(*text - '0');
+        if (*number > (most - digit) / 10)
+            return false;
+        *number = *number * 10 + digit;
+    }
+    return true;
+}
+
+static int misused(void)
+{
+    fputs("independent: not understood\n"
+          "usage: independent replay FILE..\n"
+          "       independent answers FILE..\n"
+          "       independent report [--from NUMBER] FILE..\n"
+          "A FILE of - is standard input. Every count of a report begins at NUMBER, or at 0.\n",
+          stderr);
+    return 2;
 }
 
 int main(int count, char **arguments)
 {
     static struct replay replay;
+    uint64_t from = 0;
+    int first = 2;
     int status = 0;
 
-    if (count < 3
-        || (strcmp(arguments[1], "replay") != 0 && strcmp(arguments[1], "answers") != 0)) {
-        fputs("independent: not understood\n"
-              "usage: independent replay FILE..\n"
-              "       independent answers FILE..\n"
-              "A FILE of - is standard input.\n", stderr);
-        return 2;
+    if (count < 3)
+        return misused();
+    if (strcmp(arguments[1], "replay") == 0)
+        replay.text = REPLAY;
+    else if (strcmp(arguments[1], "answers") == 0)
+        replay.text = ANSWERS;
+    else if (strcmp(arguments[1], "report") == 0)
+        replay.text = REPORT;
+    else
+        return misused();
+    if (replay.text == REPORT && strcmp(arguments[2], "--from") == 0) {
+        if (count < 5 || !get_number(arguments[3], COUNT_MOST, &from))
+            return misused();
+        first = 4;
     }
-    replay.answers = strcmp(arguments[1], "answers") == 0;
-    for (int i = 2; i < count; i++)
+    report_begin(replay.report, (uint32_t)from);
+    for (int i = first; i < count; i++)
         if (!replay_file(&replay, arguments[i]))
             status = 1;
+    if (replay.text == REPORT)
+        report_write(replay.report);
     if (fflush(stdout) != 0 || ferror(stdout)) {
         fputs("independent: the text cannot be written\n", stderr);
         return 1;
