@@ -29,6 +29,8 @@ class Program(typing.NamedTuple):
 PROGRAMS = {
     # The page's text, which every story tells something of.
     "replay": Program("replays"),
+    # One report over all logs.
+    "report": Program("reports"),
     # What layouts are compared by: each function's answers, each end state, and each other line once. How calls follow each other is
     # the module's work, and the replay's logs tell it.
     "answers": Program("answers", (
@@ -36,6 +38,12 @@ PROGRAMS = {
         "empty", "area-stays", "ticks", "three-hosts", "edge-of-area",      # ends: idle, receiving, verifying, staged, failed
         "bad-records", "page")),                                            # lines: bad, short
 }
+
+
+# The report program from near the largest count on: its crate, the number that each count begins at, and its stories. The first log
+# takes a count to the largest; those after it are refused by a cell or by each other count in turn, or taken.
+NEARLY_FULL = ("reports_full", 4294967285,
+               ("incident", "page", "mask", "ticks", "power", "bad-records", "ten-wrong", *["tail-only"] * 11, "empty"))
 
 
 # The files of the independent program that are compiled for it, main's last.

@@ -1,6 +1,7 @@
 // Reading logs, which may be files or pipes.
 ghost use Prim.Native.Nat.{_≤_};
 ghost use lib.ListN.{length};
+use libc::STDERR_FILENO;
 use libc::STDIN_FILENO;
 
 // The buffer that a log is read into part by part: 120 records, as many whole ones as 65,536 bytes hold.
@@ -37,6 +38,16 @@ pub fn fail_log(name: &[u8], size: usize)
     requires { ⌜ size ≤ length (now name) ⌝ }
 {
     os::fail(&name[0..size]);
+}
+
+// Says of the log whose name is the front of a buffer why it is refused.
+pub fn refuse_log(name: &[u8], size: usize, reason: &[u8])
+    requires { ⌜ size ≤ length (now name) ⌝ }
+{
+    io::write_all(STDERR_FILENO, &name[0..size]);
+    io::write_all(STDERR_FILENO, b": ");
+    io::write_all(STDERR_FILENO, reason);
+    io::write_all(STDERR_FILENO, b"\n");
 }
 
 // Closes a log, but not standard input, which may be named again; a negative number is no log.
