@@ -22,6 +22,7 @@ class Program(typing.NamedTuple):
     stories: typing.Optional[tuple] = EVERY_STORY       # whose logs stand in the crate's data/
     arguments: typing.Optional[tuple] = None            # else each log, what cannot be read, and standard input
     every_row: bool = True                              # whether its logs must reach every row of the page's tables
+    one_text: bool = False                              # whether it writes one text for all its logs
 
 
 # The programs by their word, which the independent program and bin/ take for the same text. A program joins by its entry here:
@@ -30,7 +31,7 @@ PROGRAMS = {
     # The page's text, which every story tells something of.
     "replay": Program("replays"),
     # One report over all logs.
-    "report": Program("reports"),
+    "report": Program("reports", one_text=True),
     # What layouts are compared by: each function's answers, each end state, and each other line once. How calls follow each other is
     # the module's work, and the replay's logs tell it.
     "answers": Program("answers", (
