@@ -1,43 +1,28 @@
+-- `report_text::put_host` meets its contract: the host's name, its number and its row are written one after the other.
+use Prim.Native.Nat.{_≤_}
+use native.Mathlib.Omega.{arith}
+use lib.ListN.{length}
 use borrow.Author.Needs.{needs}
-use Rattle.report_text.proofs.put_host.Statement.{statement}
+use Rattle.report_text.proofs.{Within.{exactly, then-within}, put_host.Statement.statement}
 use Rattle.report_text.proofs.put_host.Tie as tie
-use Rattle.report_text.proofs.put_host.Reads as reads
-use Rattle.report_text.proofs.put_host.Lts as lts
-use Rattle.report_text.proofs.put_row.Reads as put-row-reads
-use Rattle.text.proofs.put.Reads as put-reads
-use Rattle.text.proofs.put_decimal.Reads as put-decimal-reads
 
--- src/lib.rt:30:36
-slice-aggregate-put : tie.Need-slice-aggregate-put
-slice-aggregate-put c = search needs
-
--- src/lib.rt:30:9
-put-requires : tie.Need-put-requires
-put-requires c κs = search needs
-
--- src/lib.rt:31:9
-put-decimal-requires : tie.Need-put-decimal-requires
-put-decimal-requires c κs = search needs
-
--- src/lib.rt:32:5
-put-row-requires : tie.Need-put-row-requires
-put-row-requires c κs = search needs
-
--- src/lib.rt:26:1
-same-length : tie.Need-same-length
-same-length c = search needs
-
--- src/lib.rt:26:1
 returns : tie.Need-returns
-returns c = ?
+returns c =
+    let row = c .before .before in
+    let number = row .before .before .before .before in
+    let name = number .before .before .before .before in
+    let start = name .before .before .before .before in
+    let inside : start .args .at ≤ length (start .args .out .now) = omega (arith, start .pre) in
+    then-within inside (then-within inside (exactly (name .put .ensures)) (number .put-decimal .ensures)) (row .put-row .ensures)
 
+-- by search: slice-aggregate-put, put-requires, put-decimal-requires, put-row-requires, same-length
 pub put-host-spec : {M : Type 1} → statement M
 put-host-spec =
     tie.close
     (tie.spec
-    slice-aggregate-put
-    put-requires
-    put-decimal-requires
-    put-row-requires
-    same-length
+    (λ c. search needs)
+    (λ c κs. search needs)
+    (λ c κs. search needs)
+    (λ c κs. search needs)
+    (λ c. search needs)
     returns)

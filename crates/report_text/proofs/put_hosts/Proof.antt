@@ -1,55 +1,43 @@
-use Rattle.report_text.proofs.put_hosts.Statement.{statement}
+-- `report_text::put_hosts` meets its contract. The loop's invariant: the lines of the first rows were written. The measure is what is left of the 4.
+use mathlib.Core.{Path.{_≡_, refl, sym, _∙_}, List.[]}
+use Prim.Native.Nat.{_≤_, _*_, _-_}
+use native.Mathlib.Omega.{arith}
+use lib.ListN.{length}
+use borrow.Author.Needs.{needs}
+use Rattle.text.{specs.Wrote.WroteWithin, proofs.Writing.rewrote}
+use Rattle.report_text.specs.Room.{hostRoom, hostLine}
+use Rattle.report_text.proofs.{Within.nothing-yet, First.{first, firstHosts, one-more, whole-grid}, put_hosts.Statement.statement}
 use Rattle.report_text.proofs.put_hosts.Tie as tie
-use Rattle.report_text.proofs.put_hosts.Reads as reads
-use Rattle.report_text.proofs.put_hosts.Lts as lts
-use Rattle.report_text.proofs.put_host.Reads as put-host-reads
 
 abbrev Inv-loop : tie.InvT-loop
-Inv-loop out₀ at grid next₀ row₀ out next row = ?
+Inv-loop out₀ at grid next₀ row₀ out next row =
+    (row ≤ 4) × (length out ≡ length out₀) × WroteWithin (row * hostRoom) out₀ at (firstHosts grid row) out next
 
 abbrev μ-loop : tie.MeasureT-loop
-μ-loop out₀ at grid next₀ row₀ out next row = ?
+μ-loop out₀ at grid next₀ row₀ out next row = 4 - row
 
--- src/lib.rt:42:5
 loop-holds : tie.Need-loop-holds Inv-loop μ-loop
-loop-holds c = ?
+unfolding first
+loop-holds c = (omega arith, refl, nothing-yet (c .before .args .out .now) (c .before .args .at))
 
--- src/lib.rt:43:22
-mul-counts : tie.Need-mul-counts Inv-loop μ-loop
-mul-counts c = ?
-
--- src/lib.rt:43:22
-array-copy-out-counts : tie.Need-array-copy-out-counts Inv-loop μ-loop
-array-copy-out-counts c = ?
-
--- src/lib.rt:44:36
-add-put-host : tie.Need-add-put-host Inv-loop μ-loop
-add-put-host c = ?
-
--- src/lib.rt:44:9
-put-host-requires : tie.Need-put-host-requires Inv-loop μ-loop
-put-host-requires c κs = ?
-
--- src/lib.rt:45:9
-add-row : tie.Need-add-row Inv-loop μ-loop
-add-row c = ?
-
--- src/lib.rt:42:5
-loop-less : tie.Need-loop-less Inv-loop μ-loop
-loop-less c = ?
-
--- src/lib.rt:42:5
 loop-again : tie.Need-loop-again Inv-loop μ-loop
-loop-again c = ?
+loop-again c =
+    let host = c .before .before in
+    let test = host .before .before .before in
+    let l = test .before in
+    let start = l .before .before in
+    (omega (arith, test .loop-test .taken), search needs,
+    one-more [] hostLine 1 (start .args .t3) (l .loop .row) hostRoom (omega (arith, start .pre)) (l .loop .inv .2) (host .put-host .ensures))
 
--- src/lib.rt:36:1
-same-length : tie.Need-same-length Inv-loop μ-loop
-same-length c = ?
-
--- src/lib.rt:36:1
 returns : tie.Need-returns Inv-loop μ-loop
-returns c = ?
+returns c =
+    let l = c .before in
+    let start = l .before .before in
+    let all : l .loop .row ≡ 4 = omega (arith, l .loop .inv .0, c .loop-test .left) in
+    let p = l .loop .inv .2 in
+    record { within = omega (arith, all, p .within); wrote = rewrote (whole-grid (start .args .t3) (all ∙ sym (start .good .1 .1 .0 .1 .0 .1))) (p .wrote) }
 
+-- by search: mul-counts, array-copy-out-counts, add-put-host, put-host-requires, add-row, loop-less, same-length
 pub put-hosts-spec : {M : Type 1} → statement M
 put-hosts-spec =
     tie.close
@@ -57,12 +45,12 @@ put-hosts-spec =
     Inv-loop
     μ-loop
     loop-holds
-    mul-counts
-    array-copy-out-counts
-    add-put-host
-    put-host-requires
-    add-row
-    loop-less
+    (λ c. search needs)
+    (λ c. search needs)
+    (λ c. search needs)
+    (λ c κs. search needs)
+    (λ c. search needs)
+    (λ c. search needs)
     loop-again
-    same-length
+    (λ c. search needs)
     returns)
