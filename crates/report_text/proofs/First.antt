@@ -1,12 +1,12 @@
 -- A text that is a piece for each element of a list and then an end, written piece by piece: the pieces of the first k elements, and one more.
 -- Assumes nothing.
 use mathlib.Core.{Path.{_≡_, refl, sym, _∙_, ap, subst}, List.{List, [], _∷_, _++_, append-assoc, append-nil}}
-use Prim.Native.Nat.{ℕ, zero, suc, _+_, _*_, _≤_, _<_}
+use Prim.Native.Nat.{ℕ, zero, suc, _+_, _*_, _≤_}
 use native.Mathlib.{Nat.add-zero, Omega.arith}
 use lib.{ListN.{length, drop, getD, drop-of-length-le}, Seq.drop-cons}
 use Rattle.rules.{specs.Text.{ascii, decimal}, specs.Report.{rowText, hostLines}}
 use Rattle.text.specs.Wrote.{WroteWithin}
-use Rattle.report_text.specs.Room.{hostLine, countText}
+use Rattle.report_text.specs.Lines.{hostLine}
 use Rattle.report_text.proofs.Within.{then-within}
 
 module _ {A : Type 0} (none : A) (piece : ℕ → A → List ℕ) (number : ℕ) (all : List A) where
@@ -25,6 +25,7 @@ module _ {A : Type 0} (none : A) (piece : ℕ → A → List ℕ) (number : ℕ)
     where
       next : suc k ≡ k + 1
       next = omega arith
+
       room : k * most + most ≡ suc k * most
       room = omega arith
 
@@ -46,12 +47,15 @@ module _ {A : Type 0} (none : A) (piece : ℕ → A → List ℕ) (number : ℕ)
     whole {k} e =
         ap (λ (xs : List A). first k ++ text (number + k) xs) (sym (drop-of-length-le all {i = k} (omega (arith, e)))) ∙ rest-of k (omega (arith, e))
 
--- a row, count by count
+-- a row, count by count, each after a space
+abbrev pub countText : (number count : ℕ) → List ℕ
+countText number count = ascii " " ++ decimal count
+
 abbrev pub firstCounts : (row : List ℕ) (k : ℕ) → List ℕ
-firstCounts = first 0 (λ (n count : ℕ). countText count) 0
+firstCounts = first 0 countText 0
 
 pub whole-row : (row : List ℕ) {k : ℕ} → k ≡ length row → firstCounts row k ++ ascii "\n" ≡ rowText row
-whole-row row = whole 0 (λ (n count : ℕ). countText count) 0 row (λ (n : ℕ) (xs : List ℕ). rowText xs) (λ n x xs. refl)
+whole-row row = whole 0 countText 0 row (λ (n : ℕ) (xs : List ℕ). rowText xs) (λ n x xs. refl)
 
 -- the hosts' lines, row by row
 abbrev pub firstHosts : (grid : List (List ℕ)) (k : ℕ) → List ℕ

@@ -1,6 +1,6 @@
 -- Texts written one after the other, each within its room: the two at once are within the two rooms.
 -- Assumes nothing.
-use mathlib.Core.{Path.{_≡_, refl, sym, _∙_, ap}, List.{List, [], _++_}}
+use mathlib.Core.{Path.{sym, _∙_, ap}, List.{List, [], _++_}}
 use Prim.Native.Nat.{ℕ, _+_, _≤_}
 use native.Mathlib.{Nat.add-zero, Omega.arith}
 use lib.ListN.{length, take, drop, take-append-drop}

@@ -2,10 +2,10 @@
 ghost use mathlib.Core.List.{_++_};
 ghost use Prim.Native.Nat.{_+_, _≤_};
 ghost use lib.ListN.{length};
-ghost use Rattle.rules.specs.Text.{ascii, field};
+ghost use Rattle.rules.specs.Text.{field};
 ghost use Rattle.rules.specs.Report.{rowText, hostLines, countLines, reportText};
 ghost use Rattle.text.specs.Wrote.{WroteWithin};
-ghost use Rattle.report_text.specs.Room.{rowRoom, hostRoom, hostsRoom, countRoom, countsRoom, reportRoom, hostLine};
+ghost use Rattle.report_text.specs.Lines.{hostLine, rowRoom, hostRoom, hostsRoom, countRoom, countsRoom, reportRoom};
 use rules::Counts;
 
 // The counts of a host, each after a space.
@@ -57,6 +57,7 @@ fn put_count(out: &mut [u8], at: usize, name: &[u8], count: u32) -> usize
     text::put_field(out, named, count as u64, b"\n")
 }
 
+// The line of each count beside the grid; each local is the place after its line.
 fn put_counts(out: &mut [u8], at: usize, counts: Counts) -> usize
     requires { ⌜ at + countsRoom ≤ length (now out) ⌝ }
     ensures { λ r. ⌜ WroteWithin countsRoom (now (out .entry)) at (countLines counts) (now (out .exit)) r ⌝ }
@@ -68,6 +69,7 @@ fn put_counts(out: &mut [u8], at: usize, counts: Counts) -> usize
     put_count(out, bads, b"short ", counts.shorts)
 }
 
+// The whole text, at the buffer's front; the answer is its length.
 pub fn put_report(out: &mut [u8], grid: [[u32; 12]; 4], counts: Counts) -> usize
     requires { ⌜ reportRoom ≤ length (now out) ⌝ }
     ensures { λ r. ⌜ WroteWithin reportRoom (now (out .entry)) 0 (reportText (record { grid = grid; counts = counts })) (now (out .exit)) r ⌝ }

@@ -5,7 +5,7 @@ use native.Mathlib.Omega.{arith}
 use lib.ListN.{length}
 use borrow.Author.Needs.{needs}
 use Rattle.text.{specs.Wrote.WroteWithin, proofs.Writing.rewrote}
-use Rattle.report_text.specs.Room.{hostRoom, hostLine}
+use Rattle.report_text.specs.Lines.{hostRoom, hostLine}
 use Rattle.report_text.proofs.{Within.nothing-yet, First.{first, firstHosts, one-more, whole-grid}, put_hosts.Statement.statement}
 use Rattle.report_text.proofs.put_hosts.Tie as tie
 
@@ -25,9 +25,11 @@ loop-again c =
     let host = c .before .before in
     let test = host .before .before .before in
     let l = test .before in
-    let start = l .before .before in
-    (omega (arith, test .loop-test .taken), search needs,
-    one-more [] hostLine 1 (start .args .t3) (l .loop .row) hostRoom (omega (arith, start .pre)) (l .loop .inv .2) (host .put-host .ensures))
+    let start = l .before .before in (
+      omega (arith, test .loop-test .taken),
+      search needs,
+      one-more [] hostLine 1 (start .args .t3) (l .loop .row) hostRoom (omega (arith, start .pre)) (l .loop .inv .2) (host .put-host .ensures),
+    )
 
 returns : tie.Need-returns Inv-loop μ-loop
 returns c =

@@ -1,12 +1,11 @@
 -- `report_text::put_row` meets its contract. The loop's invariant: the first counts were written. The measure is what is left of the 12.
 use mathlib.Core.Path.{_≡_, refl, sym, _∙_}
-use Prim.Native.Nat.{ℕ, _≤_, _*_, _-_}
+use Prim.Native.Nat.{_≤_, _*_, _-_}
 use native.Mathlib.Omega.{arith}
 use lib.ListN.{length}
 use borrow.Author.Needs.{needs}
 use Rattle.text.{specs.Wrote.WroteWithin, proofs.Writing.{and-then, rewrote}}
-use Rattle.report_text.specs.Room.{countText}
-use Rattle.report_text.proofs.{Within.{exactly, then-within, nothing-yet}, First.{first, firstCounts, one-more, whole-row}, put_row.Statement.statement}
+use Rattle.report_text.proofs.{Within.{exactly, then-within, nothing-yet}, First.{first, countText, firstCounts, one-more, whole-row}, put_row.Statement.statement}
 use Rattle.report_text.proofs.put_row.Tie as tie
 
 abbrev Inv-loop : tie.InvT-loop
@@ -29,7 +28,7 @@ loop-again c =
     let start = l .before .before in
     let row = start .args .t3 in
     let count = then-within (omega (arith, start .pre, l .loop .inv .1, l .loop .inv .2 .within, test .loop-test .taken)) (exactly (spaced .put .ensures)) (number .put-decimal .ensures) in
-    (omega (arith, test .loop-test .taken), search needs, one-more 0 (λ (n count : ℕ). countText count) 0 row (l .loop .column) 21 (omega (arith, start .pre)) (l .loop .inv .2) count)
+    (omega (arith, test .loop-test .taken), search needs, one-more 0 countText 0 row (l .loop .column) 21 (omega (arith, start .pre)) (l .loop .inv .2) count)
 
 returns : tie.Need-returns Inv-loop μ-loop
 returns c =
@@ -45,6 +44,8 @@ returns c =
       wrote = rewrote (whole-row row (all ∙ sym (start .good .1 .1 .0 .1 .0 .1))) (and-then (omega (arith, start .pre)) (p .wrote) q);
     }
 
+-- by search: slice-aggregate-put, put-requires, mul-put-decimal, array-read-put-decimal, cast-put-decimal, put-decimal-requires, add-column, loop-less,
+-- slice-aggregate-put-2, put-requires-2, same-length
 pub put-row-spec : {M : Type 1} → statement M
 put-row-spec =
     tie.close
