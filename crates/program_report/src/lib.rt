@@ -12,8 +12,8 @@ use rules::ANSWER_ROOM;
 use rules::AREA_SIZE;
 use rules::Counts;
 
-// The report's text, which takes at most 1,408 bytes.
-const TEXT: usize = 4096;
+// The report's text, which has room for 2,048 bytes.
+const TEXT: usize = 2048;
 
 // Before the first log.
 fn before(counts: Counts) -> Reporting {

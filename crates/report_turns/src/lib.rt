@@ -28,7 +28,12 @@ pub struct Reporting {
 }
 
 // A log begins with the report that is kept, a fresh module and an area of zeros.
-fn begin(kept: &[[u32; 12]; 4], grid: &mut [[u32; 12]; 4], counts: Counts, area: &mut [u8; AREA_SIZE]) -> Reporting
+fn begin(
+    kept: &[[u32; 12]; 4],
+    grid: &mut [[u32; 12]; 4],
+    counts: Counts,
+    area: &mut [u8; AREA_SIZE],
+) -> Reporting
     ensures { λ r. ⌜ Leaves (begins (record { grid = now (kept .entry); counts = counts })) false (now (kept .entry)) (now (grid .exit)) (now (area .exit)) r ⌝ }
 {
     *grid = *kept;
@@ -66,7 +71,12 @@ fn count(
 }
 
 // At its end a log is taken, or refused.
-fn end(kept: &mut [[u32; 12]; 4], grid: &[[u32; 12]; 4], reporting: Reporting, short: bool) -> Reporting
+fn end(
+    kept: &mut [[u32; 12]; 4],
+    grid: &[[u32; 12]; 4],
+    reporting: Reporting,
+    short: bool,
+) -> Reporting
     ensures { λ r. ⌜ Ended short (now (kept .entry)) (now (grid .entry)) reporting (now (kept .exit)) r ⌝ }
 {
     let going = reporting.going;

@@ -19,10 +19,14 @@ abbrev μ-loop : tie.MeasureT-loop
 
 loop-holds : tie.Need-loop-holds Inv-loop μ-loop
 loop-holds c =
-    let a = c .before .before .before .args in
-    (refl, omega arith, refl, refl,
-    none-yet (tallyOf (a .grid .now) (a .counting .counts) (a .counting .full)) (moduleOf (a .d) (a .area .now)) (a .part .now) (a .grid .now) (a .area .now) _
-    (record { grid-is = refl; counts-are = refl; full-is = refl }) refl)
+    let a = c .before .before .before .args in (
+      refl,
+      omega arith,
+      refl,
+      refl,
+      none-yet (tallyOf (a .grid .now) (a .counting .counts) (a .counting .full)) (moduleOf (a .d) (a .area .now)) (a .part .now) (a .grid .now) (a .area .now) _
+          (record { grid-is = refl; counts-are = refl; full-is = refl }) refl,
+    )
 
 add-j : tie.Need-add-j Inv-loop μ-loop
 add-j c =
@@ -36,9 +40,13 @@ loop-again c =
     let k = c .before .before .before .before in
     let l = k .before .before .before .before .before .before .before .before in
     let a = l .before .before .before .before .args in
-    let inv = l .loop .inv in
-    (inv .0, omega (arith, k .before .before .before .before .before .before .before .loop-test .taken), search needs, search needs,
-    one-more (tallyOf (a .grid .now) (a .counting .counts) (a .counting .full)) (moduleOf (a .d) (a .area .now)) (a .part .now) (l .loop .j) (inv .4) (k .count-record .ensures))
+    let inv = l .loop .inv in (
+      inv .0,
+      omega (arith, k .before .before .before .before .before .before .before .loop-test .taken),
+      search needs,
+      search needs,
+      one-more (tallyOf (a .grid .now) (a .counting .counts) (a .counting .full)) (moduleOf (a .d) (a .area .now)) (a .part .now) (l .loop .j) (inv .4) (k .count-record .ensures),
+    )
 
 returns : tie.Need-returns Inv-loop μ-loop
 returns c =
