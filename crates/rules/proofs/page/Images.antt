@@ -221,13 +221,26 @@ made-well payload version h one most =
     count = ap (λ (k : ℕ). k / 128) (records-long n 0 n version payload) ∙ omega arith
 
 -- what records carry has 112 bytes for each
-pub carried-long : (records : ℕ) (bytes : List ℕ) → length bytes ≡ records * 128 → length (carried records bytes) ≡ records * 112
+pub carried-long : (records : ℕ) (bytes : List ℕ) → records * 128 ≤ length bytes → length (carried records bytes) ≡ records * 112
 unfolding carried
 carried-long zero bytes long = refl
 carried-long (suc records) bytes long =
     let room : 112 ≤ length (drop 12 bytes) = rw length-drop (omega (arith, long)) in
     length-append (take 112 (drop 12 bytes)) (carried records (drop 128 bytes))
-    ∙ omega (arith, length-take-le 112 (drop 12 bytes) room, carried-long records (drop 128 bytes) (length-drop 128 bytes ∙ omega (arith, long)))
+    ∙ omega (arith, length-take-le 112 (drop 12 bytes) room, carried-long records (drop 128 bytes) (rw length-drop (omega (arith, long))))
+
+-- what the first so many records carry, and the next one
+pub one-part-more : (records : ℕ) (bytes : List ℕ)
+    → carried (suc records) bytes ≡ carried records bytes ++ take 112 (drop (records * 128 + 12) bytes)
+unfolding carried
+one-part-more zero bytes = append-nil (take 112 (drop 12 bytes))
+one-part-more (suc records) bytes =
+    let place : 128 + (records * 128 + 12) ≡ suc records * 128 + 12 = omega arith in
+    let later : drop (records * 128 + 12) (drop 128 bytes) ≡ drop (suc records * 128 + 12) bytes =
+    drop-drop (records * 128 + 12) 128 bytes ∙ ap (λ (at : ℕ). drop at bytes) place in
+    ap (λ (l : List ℕ). take 112 (drop 12 bytes) ++ l) (one-part-more records (drop 128 bytes))
+    ∙ sym (append-assoc (take 112 (drop 12 bytes)) (carried records (drop 128 bytes)) _)
+    ∙ ap (λ (l : List ℕ). take 112 (drop 12 bytes) ++ carried records (drop 128 bytes) ++ take 112 l) later
 
 -- a good record and the records that what follows carries make, are the bytes again
 one-again : (i n version : ℕ) (bytes carry made : List ℕ) → 128 ≤ length bytes → AreBytes bytes → goodRecord i n version (take 128 bytes) ≡ true
@@ -275,11 +288,11 @@ records-again (suc records) i n version bytes long are good =
     ∙ records-again records (i + 1) n version (drop 128 bytes) (length-drop 128 bytes ∙ omega (arith, long)) (drop-bytes 128 bytes are) (both .1))
 
 -- what a good image is known by
-record Known (image : List ℕ) (version : ℕ) : Type 0 where
-  sized : Sized (length image)
-  good : goodRecords (recordsOf image) 0 (recordsOf image) version image ≡ true
+pub record Known (image : List ℕ) (version : ℕ) : Type 0 where
+  pub sized : Sized (length image)
+  pub good : goodRecords (recordsOf image) 0 (recordsOf image) version image ≡ true
 
-known : (image : List ℕ) (version : ℕ) → imageOf image ≡ Good version → Known image version
+pub known : (image : List ℕ) (version : ℕ) → imageOf image ≡ Good version → Known image version
 unfolding imageOf goodImage
 known image version e = go (goodImage image) refl e
   where
@@ -306,7 +319,7 @@ unfolding madeImage payloadOf
 made-again image version are e =
     let k = known image version e in
     let n : ℕ = recordsOf image in
-    let long : length (carried n image) ≡ n * 112 = carried-long n image (k .sized .whole) in
+    let long : length (carried n image) ≡ n * 112 = carried-long n image (omega (arith, k .sized .whole)) in
     let parts = cut (carried n image) in
     let same : partsOf (carried n image) ≡ n = omega (arith, long, parts .some, parts .enough, parts .no-more, k .sized .some) in
     ap (λ (m : ℕ). madeRecords m 0 m version (carried n image)) same ∙ records-again n 0 n version image (k .sized .whole) are (k .good)
