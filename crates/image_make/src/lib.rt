@@ -19,7 +19,7 @@ use rules::VERSION_PLACE;
 // The bytes of a payload that one record carries.
 const PART: usize = SUM_PLACE - PAYLOAD_PLACE;
 
-// Record i of n, over the whole of a record's bytes.
+// Record i of n, over the whole of a record's bytes. The part is named with its size, so that the compiler knows how much it copies.
 fn put_record(i: usize, n: usize, version: u64, part: &[u8], record: &mut [u8])
     requires { ⌜ (length (now part) ≡ 112) × (length (now «record») ≡ 128) ⌝ }
     ensures { λ r. ⌜ now («record» .exit) ≡ madeRecord i n version (now (part .entry)) ⌝ }
@@ -27,7 +27,7 @@ fn put_record(i: usize, n: usize, version: u64, part: &[u8], record: &mut [u8])
     bytes_base::put_at(record, NUMBER_PLACE, 2, i as u64);
     bytes_base::put_at(record, COUNT_PLACE, 2, n as u64);
     bytes_base::put_at(record, VERSION_PLACE, 8, version);
-    bytes_base::copy_at(record, PAYLOAD_PLACE, part);
+    bytes_base::copy_at(record, PAYLOAD_PLACE, &part[0..PART]);
     let sum = image_record::sum(record);
     bytes_base::put_at(record, SUM_PLACE, 4, sum as u64);
 }
