@@ -59,27 +59,35 @@ readBytes (Read length) = length
 readBytes NotGoodImage = 0
 readBytes ReadTooShort = 0
 
--- they are at most those of 128 records
-pub made-few : (version : ℕ) (payload output : List ℕ) {length : ℕ} → makingOf version payload output ≡ Made length → length ≤ 16384
+-- they are at most those of 128 records, and the output has room for them
+pub record Inside (bytes room : ℕ) : Type 0 where
+  pub few : bytes ≤ 16384
+  pub fits : bytes ≤ room
+
+pub made-inside : (version : ℕ) (payload output : List ℕ) {bytes : ℕ} → makingOf version payload output ≡ Made bytes → Inside bytes (length output)
 unfolding makingOf
-made-few version payload output e =
-    subst (λ (bytes : ℕ). bytes ≤ 16384) (ap madeBytes e) (go (version =? 0) (mostRecords <? partsOf payload) refl (length output <? partsOf payload * 128))
+made-inside version payload output e =
+    subst (λ (bytes : ℕ). Inside bytes (length output)) (ap madeBytes e)
+    (go (version =? 0) (mostRecords <? partsOf payload) refl (length output <? partsOf payload * 128) refl)
   where
-    go : (none : Bool) (many : Bool) → (mostRecords <? partsOf payload) ≡ many → (short : Bool)
-        → madeBytes (if none then VersionZero else if many then PayloadOver128Records else if short then OutputTooShort else Made (partsOf payload * 128)) ≤ 16384
-    go true many m short = omega arith
-    go false true m short = omega arith
-    go false false m true = omega arith
-    go false false m false = omega (arith, ltb-false 128 (partsOf payload) m)
+    go : (none : Bool) (many : Bool) → (mostRecords <? partsOf payload) ≡ many → (short : Bool) → (length output <? partsOf payload * 128) ≡ short
+        → Inside (madeBytes (if none then VersionZero else if many then PayloadOver128Records else if short then OutputTooShort else Made (partsOf payload * 128)))
+        (length output)
+    go true many m short s = record { few = omega arith; fits = omega arith }
+    go false true m short s = record { few = omega arith; fits = omega arith }
+    go false false m true s = record { few = omega arith; fits = omega arith }
+    go false false m false s =
+        record { few = omega (arith, ltb-false 128 (partsOf payload) m); fits = ltb-false (length output) (partsOf payload * 128) s }
 
-pub read-few : (image output : List ℕ) {length : ℕ} → readingOf image output ≡ Read length → length ≤ 16384
+pub read-inside : (image output : List ℕ) {bytes : ℕ} → readingOf image output ≡ Read bytes → Inside bytes (length output)
 unfolding readingOf
-read-few image output e = subst (λ (bytes : ℕ). bytes ≤ 16384) (ap readBytes e) (go (imageOf image) refl)
+read-inside image output e = subst (λ (bytes : ℕ). Inside bytes (length output)) (ap readBytes e) (go (imageOf image) refl)
   where
-    sized : (short : Bool) → length image / 128 ≤ 128 → readBytes (if short then ReadTooShort else Read (length image / 128 * 112)) ≤ 16384
-    sized true few = omega arith
-    sized false few = omega (arith, few)
+    sized : (short : Bool) → (length output <? length image / 128 * 112) ≡ short → length image / 128 ≤ 128
+        → Inside (readBytes (if short then ReadTooShort else Read (length image / 128 * 112))) (length output)
+    sized true s few = record { few = omega arith; fits = omega arith }
+    sized false s few = record { few = omega (arith, few); fits = ltb-false (length output) (length image / 128 * 112) s }
 
-    go : (found : Image) → imageOf image ≡ found → readBytes (readingIf found image output) ≤ 16384
-    go (Good version) good = sized (length output <? length image / 128 * 112) (known image version good .sized .few)
-    go Bad bad = omega arith
+    go : (found : Image) → imageOf image ≡ found → Inside (readBytes (readingIf found image output)) (length output)
+    go (Good version) good = sized (length output <? length image / 128 * 112) refl (known image version good .sized .few)
+    go Bad bad = record { few = omega arith; fits = omega arith }

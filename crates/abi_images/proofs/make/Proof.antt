@@ -2,20 +2,20 @@
 -- Assumes nothing.
 use mathlib.Core.Path.{refl, sym, _∙_}
 use borrow.Author.Needs.{needs}
-use Rattle.image_make.proofs.Answers.{made-few}
+use Rattle.image_make.proofs.Answers.{made-inside}
 use Rattle.abi_images.proofs.{Laws.{as-number, told-as-it-is, made-told}, make.Statement.statement}
 use Rattle.abi_images.proofs.make.Tie as tie
 
 cast-result : tie.Need-cast-result
 cast-result c =
     let m = c .before .before .before .before .before in
-    as-number _ (made-few _ _ _ (sym (m .make .ensures .0) ∙ c .before .answer .given .1))
+    as-number _ (made-inside _ _ _ (sym (m .make .ensures .0) ∙ c .before .answer .given .1) .few)
 
 returns : tie.Need-returns
 returns c =
     let m = c .before .before .before .before .before in
     let which = c .before .answer .given .1 in
-    made-told _ _ _ (m .make .ensures .0) (m .make .ensures .1) which (told-as-it-is _ (made-few _ _ _ (sym (m .make .ensures .0) ∙ which)))
+    made-told _ _ _ (m .make .ensures .0) (m .make .ensures .1) which (told-as-it-is _ (made-inside _ _ _ (sym (m .make .ensures .0) ∙ which) .few))
 
 returns-2 : tie.Need-returns-2
 returns-2 c =

@@ -2,20 +2,20 @@
 -- Assumes nothing.
 use mathlib.Core.Path.{refl, sym, _∙_}
 use borrow.Author.Needs.{needs}
-use Rattle.image_make.proofs.Answers.{read-few}
+use Rattle.image_make.proofs.Answers.{read-inside}
 use Rattle.abi_images.proofs.{Laws.{as-number, told-as-it-is, read-told}, read.Statement.statement}
 use Rattle.abi_images.proofs.read.Tie as tie
 
 cast-result : tie.Need-cast-result
 cast-result c =
     let m = c .before .before .before .before .before in
-    as-number _ (read-few _ _ (sym (m .read-back .ensures .0) ∙ c .before .answer .given .1))
+    as-number _ (read-inside _ _ (sym (m .read-back .ensures .0) ∙ c .before .answer .given .1) .few)
 
 returns : tie.Need-returns
 returns c =
     let m = c .before .before .before .before .before in
     let which = c .before .answer .given .1 in
-    read-told _ _ (m .read-back .ensures .0) (m .read-back .ensures .1) which (told-as-it-is _ (read-few _ _ (sym (m .read-back .ensures .0) ∙ which)))
+    read-told _ _ (m .read-back .ensures .0) (m .read-back .ensures .1) which (told-as-it-is _ (read-inside _ _ (sym (m .read-back .ensures .0) ∙ which) .few))
 
 returns-2 : tie.Need-returns-2
 returns-2 c =
