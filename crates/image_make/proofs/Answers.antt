@@ -1,6 +1,6 @@
 -- Laws of the answers: each refusal where its turn is.
 -- Assumes nothing.
-use mathlib.Core.{Path.{_≡_, refl, _∙_, sym, ap, subst}, Bool.{Bool, true, false}, List.List}
+use mathlib.Core.{Path.{_≡_, refl, _∙_, ap, subst}, Bool.{Bool, true, false}, List.List}
 use Prim.Native.Nat.{ℕ, _≤_, _<_, _*_, _/_}
 use native.Mathlib.Omega.{arith}
 use lib.ListN.{length}

@@ -10,10 +10,16 @@ use Rattle.rules.specs.Made.{partsOf, firstPart, unsummed, madeRecord, madeReco
 use Rattle.rules.{proofs.page.Records.{sum-of-front, unsummed-long, made-long}, proofs.page.Images.{cut, records-long, one-record-more, carried-long, one-part-more}}
 use Rattle.bytes_base.proofs.Parts.{splice-splice, copy-whole, lent-as, rest}
 
+-- a part copied over an array of its size is that part
+pub part-own : (part : List ℕ) {own : List ℕ} → length part ≡ 112 → own ≡ splice 0 (take 112 part) (zeros 112) → own ≡ part
+part-own part whole e =
+    let all : take 112 part ≡ part = take-all 112 part (omega (arith, whole)) in
+    e ∙ ap (λ (l : List ℕ). splice 0 l (zeros 112)) all ∙ copy-whole part (zeros 112) (omega (arith, whole))
+
 -- a record whose fields were written one after another
 pub record-written : (i n version : ℕ) (part old : List ℕ) {first second third fourth last : List ℕ} {sum : ℕ}
     → length part ≡ 112 → length old ≡ 128
-    → first ≡ splice 0 (le 2 i) old → second ≡ splice 2 (le 2 n) first → third ≡ splice 4 (le 8 version) second → fourth ≡ splice 12 (take 112 part) third
+    → first ≡ splice 0 (le 2 i) old → second ≡ splice 2 (le 2 n) first → third ≡ splice 4 (le 8 version) second → fourth ≡ splice 12 part third
     → sum ≡ recordSum fourth → last ≡ splice 124 (le 4 sum) fourth
     → last ≡ madeRecord i n version part
 unfolding madeRecord
@@ -21,11 +27,10 @@ record-written i n version part old {fourth = fourth} {sum = sum} whole room e1 
     let body : List ℕ = unsummed i n version part in
     let long : length body ≡ 124 = unsummed-long i n version part whole in
     let place : 124 ≡ 0 + length body = omega (arith, long) in
-    let all : take 112 part ≡ part = take-all 112 part (omega (arith, whole)) in
     let two = e2 ∙ ap (splice 2 (le 2 n)) e1 ∙ splice-splice 0 (le 2 i) (le 2 n) old (omega arith) in
     let three = e3 ∙ ap (splice 4 (le 8 version)) two ∙ splice-splice 0 (le 2 i ++ le 2 n) (le 8 version) old (omega arith) in
     let four : fourth ≡ splice 0 body old =
-    e4 ∙ (λ k. splice 12 (all k) (three k)) ∙ splice-splice 0 (le 2 i ++ le 2 n ++ le 8 version) part old (omega arith) in
+    e4 ∙ ap (splice 12 part) three ∙ splice-splice 0 (le 2 i ++ le 2 n ++ le 8 version) part old (omega arith) in
     let sum-is : sum ≡ recordSum body =
     s ∙ ap recordSum four ∙ ap (λ (k : ℕ). k % 2 ^ 32) (sum-of-front 31 body (drop (0 + length body) old) (rw long (omega arith))) in
     e5 ∙ (λ k. splice 124 (le 4 (sum-is k)) (four k))

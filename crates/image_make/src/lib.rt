@@ -19,7 +19,17 @@ use rules::VERSION_PLACE;
 // The bytes of a payload that one record carries.
 const PART: usize = SUM_PLACE - PAYLOAD_PLACE;
 
-// Record i of n, over the whole of a record's bytes. The part is named with its size, so that the compiler knows how much it copies.
+// Writes a part at a place. It goes through an array of its own, so that the compiler need not ask whether it lies where it is written to.
+fn put_part(part: &[u8], output: &mut [u8], at: usize)
+    requires { ⌜ (length (now part) ≡ 112) × (at + 112 ≤ length (now output)) ⌝ }
+    ensures { λ r. ⌜ now (output .exit) ≡ splice at (now (part .entry)) (now (output .entry)) ⌝ }
+{
+    let mut own = [0u8; PART];
+    bytes_base::copy(&mut own, &part[0..PART]);
+    bytes_base::copy_at(output, at, &own);
+}
+
+// Record i of n, over the whole of a record's bytes.
 fn put_record(i: usize, n: usize, version: u64, part: &[u8], record: &mut [u8])
     requires { ⌜ (length (now part) ≡ 112) × (length (now «record») ≡ 128) ⌝ }
     ensures { λ r. ⌜ now («record» .exit) ≡ madeRecord i n version (now (part .entry)) ⌝ }
@@ -27,7 +37,7 @@ fn put_record(i: usize, n: usize, version: u64, part: &[u8], record: &mut [u8])
     bytes_base::put_at(record, NUMBER_PLACE, 2, i as u64);
     bytes_base::put_at(record, COUNT_PLACE, 2, n as u64);
     bytes_base::put_at(record, VERSION_PLACE, 8, version);
-    bytes_base::copy_at(record, PAYLOAD_PLACE, &part[0..PART]);
+    put_part(part, record, PAYLOAD_PLACE);
     let sum = image_record::sum(record);
     bytes_base::put_at(record, SUM_PLACE, 4, sum as u64);
 }
@@ -118,7 +128,7 @@ fn put_parts(n: usize, image: &[u8], output: &mut [u8])
     let mut i: usize = 0;
     while i < n {
         let from = i * IMAGE_RECORD + PAYLOAD_PLACE;
-        bytes_base::copy_at(output, i * PART, &image[from..from + PART]);
+        put_part(&image[from..from + PART], output, i * PART);
         i += 1;
     }
 }

@@ -1,13 +1,12 @@
 -- Laws of a word's digits: one of them, and the loop over them.
 -- Assumes nothing.
 use mathlib.Core.{Path.{_≡_, refl, sym, _∙_, ap}, Bool.{Bool, true, false, _&&_, _||_}, List.List}
-use Prim.Native.Nat.{ℕ, suc, _≤_, _<_, _+_, _-_, _*_}
+use Prim.Native.Nat.{ℕ, _≤_, _<_, _+_, _-_, _*_}
 use native.Mathlib.{Numerals.add-one, Omega.arith}
 use lib.{Dec.{ltb, leb, eqb}, ListN.{length, getD, drop, drop-of-length-le}, Seq.drop-cons}
 use borrow.Author.Tests.{leb-true, leb-false, ltb-true, ltb-false, eqb-true, eqb-false, le-leb, lt-leb}
 use Rattle.rules.{specs.Tests.{if_then_else_, _≤?_, _=?_}, proofs.page.Choice.and-3}
 use Rattle.images.specs.Version.{digit, fits, none, numberFrom, numberIn}
-use Rattle.images.specs.declared.Given.{Given}
 
 module _ (n byte : ℕ) where
   pub below-digits : byte < 48 → false ≡ fits n byte

@@ -16,9 +16,13 @@ use Rattle.rules.specs.declared.{ReadingBack.ReadingBack, ReadingBack.th
 abbrev pub partSize : ℕ
 partSize = payloadField .size
 
--- "Payload is cut into 112-byte parts .. an empty payload makes one record": how many records it makes
+-- "Payload is cut into 112-byte parts": how many, where the last may have fewer bytes
+abbrev pub partsIn : (bytes : ℕ) → ℕ
+partsIn bytes = (bytes + (partSize - 1)) / partSize
+
+-- "an empty payload makes one record": how many records a payload makes
 abbrev pub partsOf : (payload : List ℕ) → ℕ
-partsOf payload = if length payload =? 0 then 1 else (length payload + (partSize - 1)) / partSize
+partsOf payload = if length payload =? 0 then 1 else partsIn (length payload)
 
 -- "the last padded with zeros": the first part of what is left of a payload
 abbrev pub firstPart : (payload : List ℕ) → List ℕ

@@ -23,7 +23,7 @@ loop-again : tie.Need-loop-again Inv-loop μ-loop
 loop-again c =
     let k = c .before .before .before .before .before .before in
     let a = k.before.before.before.args in
-    (search needs, search needs, part-behind k.loop.i a.image.now a.output.now (omega arith) (k .loop .inv .2) (c .before .before .copy-at .ensures))
+    (search needs, search needs, part-behind k.loop.i a.image.now a.output.now (omega arith) (k .loop .inv .2) (c .before .before .put-part .ensures))
 
 returns : tie.Need-returns Inv-loop μ-loop
 returns c =
@@ -32,7 +32,8 @@ returns c =
     let all : k.loop.i ≡ a.n = omega arith in
     k .loop .inv .2 ∙ ap (λ (records : ℕ). splice 0 (carried records a.image.now) a.output.now) all
 
--- by search: mul-from, add-from, mul-copy-at, add-copy-at, sub-copy-at, part-copy-at-start, part-copy-at-end, copy-at-requires, add-i, loop-less, same-length
+-- by search: mul-from, add-from, add-put-part, sub-put-part, part-put-part-start, part-put-part-end, mul-put-part, put-part-requires, add-i, loop-less,
+-- same-length
 pub put-parts-spec : {M : Type 1} → statement M
 put-parts-spec =
     tie.close

@@ -6,15 +6,14 @@ use Rattle.image_make.proofs.put_record.Tie as tie
 
 returns : tie.Need-returns
 returns c =
-    let k = c .before .before .before .before .before .before .before .before .before .before .before .before .before in
+    let k = c .before .before .before .before .before .before .before .before .before .before .before .before in
     let b = k .before .before .before .before .before .before .before .before .before .before .before .before in
     let a = b.args in
     record-written a.i a.n a.version a.part.now a.record.now (b .pre .0) (b .pre .1)
-    (k .before .before .before .before .before .before .before .before .put-at .ensures) (k .before .before .before .before .put-at2 .ensures) (k .put-at3 .ensures) (c .before .before .before .before .before .before .before .before .copy-at .ensures)
+    (k .before .before .before .before .before .before .before .before .put-at .ensures) (k .before .before .before .before .put-at2 .ensures) (k .put-at3 .ensures) (c .before .before .before .before .before .before .before .before .put-part .ensures)
     (c .before .before .before .before .sum .ensures) (c .before .before .put-at4 .ensures)
 
--- by search: put-at-requires, put-at-requires-2, put-at-requires-3, sub-copy-at, part-copy-at-start, part-copy-at-end, copy-at-requires, sum-requires,
--- cast-put-at, put-at-requires-4, same-length
+-- by search: put-at-requires, put-at-requires-2, put-at-requires-3, put-part-requires, sum-requires, cast-put-at, put-at-requires-4, same-length
 pub put-record-spec : {M : Type 1} → statement M
 put-record-spec =
     tie.close
@@ -22,9 +21,6 @@ put-record-spec =
     (λ c κs. search needs)
     (λ c κs. search needs)
     (λ c κs. search needs)
-    (λ c. search needs)
-    (λ c. search needs)
-    (λ c. search needs)
     (λ c κs. search needs)
     (λ c κs. search needs)
     (λ c. search needs)

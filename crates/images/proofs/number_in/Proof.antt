@@ -6,7 +6,7 @@ use native.Mathlib.Omega.{arith}
 use lib.ListN.{length, drop}
 use borrow.{Author.Needs.needs, Author.Tests.{not-true, not-false}}
 use Rattle.images.specs.Version.{numberFrom}
-use Rattle.images.proofs.{Laws.{Fitting, fitting, empty-word, goes-on, ends-bad, ends-good}, number_in.Statement.statement}
+use Rattle.images.proofs.{Laws.{fitting, empty-word, goes-on, ends-bad, ends-good}, number_in.Statement.statement}
 use Rattle.images.proofs.number_in.Tie as tie
 
 abbrev Inv-loop : tie.InvT-loop

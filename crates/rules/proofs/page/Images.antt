@@ -8,7 +8,7 @@ use lib.Seq.{take-append-le, drop-append-le, drop-drop, drop-at, take-at, take-a
 use borrow.Author.Tests.{leb-true, leb-false, eqb-true, eqb-false, eq-eqb, ne-eqb, le-leb, lt-ltb, le-ltb}
 use Rattle.rules.specs.{Tests.{if_then_else_, _<?_, _=?_}, Bytes.{zeros, AreBytes}}
 use Rattle.rules.specs.Image.{mostRecords, payloadField, bytesIn, recordsOf, goodRecord, goodRecords, goodSize, versionOf, goodImage, imageOf}
-use Rattle.rules.specs.Made.{partsOf, firstPart, madeRecord, madeRecords, madeImage, carried, payloadOf, MadeWell, RequestT02}
+use Rattle.rules.specs.Made.{partsIn, partsOf, firstPart, madeRecord, madeRecords, madeImage, carried, payloadOf, MadeWell, RequestT02}
 use Rattle.rules.specs.declared.{Image.Image, Image.the-variants.{Good, Bad}}
 use Rattle.rules.proofs.page.Choice.{and-true}
 use Rattle.rules.proofs.page.Le.{take-bytes, drop-bytes, append-bytes, zeros-bytes}
@@ -37,7 +37,7 @@ pub record Cut (size parts : ℕ) : Type 0 where
 pub cut : (payload : List ℕ) → Cut (length payload) (partsOf payload)
 cut payload = go (length payload =? 0) refl
   where
-    go : (none : Bool) → (length payload =? 0) ≡ none → Cut (length payload) (if none then 1 else (length payload + 111) / 112)
+    go : (none : Bool) → (length payload =? 0) ≡ none → Cut (length payload) (if none then 1 else partsIn (length payload))
     go true e =
         let empty : length payload ≡ 0 = eqb-true (length payload) 0 e in
         record { some = omega arith; enough = omega (arith, empty); no-more = omega arith }

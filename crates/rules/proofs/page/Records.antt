@@ -30,7 +30,7 @@ module _ (i n version : ℕ) (part : List ℕ) (whole : length part ≡ 112) whe
 
   pub made-long : length (madeRecord i n version part) ≡ 128
   unfolding madeRecord
-  made-long = length-append (unsummed i n version part) (le 4 (recordSum (unsummed i n version part))) ∙ ap (λ (k : ℕ). k + 4) unsummed-long
+  made-long = length-append (unsummed i n version part) _ ∙ ap (λ (k : ℕ). k + 4) unsummed-long
 
   made-sum : recordSum (madeRecord i n version part) ≡ recordSum (unsummed i n version part)
   unfolding madeRecord
