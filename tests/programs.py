@@ -48,7 +48,9 @@ NEARLY_FULL = ("reports_full", 4294967285,
 
 
 # The files of the independent program that are compiled for it, main's last.
-INDEPENDENT = ("module", "report", "replay")
+INDEPENDENT = ("module", "image", "image_files", "report", "replay")
+
+
 # The program behind bin/image, which takes no logs: its crate. tests/stdout writes that crate's files too, and tests/images tries it.
 IMAGES = "images"
 LONGEST_PAYLOAD = 14336     # document 02, T-02: 128 records of 112 bytes
