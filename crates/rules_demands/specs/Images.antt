@@ -1,11 +1,25 @@
--- Document 02, T-02, by examples: two images written out byte by byte, how many records payloads make, and each refusal where its turn is.
+-- Document 02, T-02, written out, and by examples: two images written out byte by byte, how many records payloads make, and each refusal where its turn is.
 -- Assumes nothing.
-use Prim.Native.Nat.{ℕ}
+use Prim.Native.Nat.{ℕ, _-_, _*_, _<_, _≤_}
 use mathlib.Core.{Path._≡_, List.{List, [], _∷_, _++_, map}}
-use lib.ListN.{replicate}
+use lib.ListN.{length, replicate, getD}
+use Rattle.rules.specs.{Tests.{_<?_}, Image.{imageOf}}
 use Rattle.rules.specs.Made.{partsOf, madeImage, payloadOf, makingOf, outputMade, readingOf, outputRead}
 use Rattle.rules.specs.declared.Making.the-variants.{Made, VersionZero, PayloadOver128Records, OutputTooShort}
 use Rattle.rules.specs.declared.ReadingBack.the-variants.{Read, NotGoodImage, OutputTooShort as ReadTooShort}
+use Rattle.rules.specs.declared.Image.the-variants.{Good}
+
+-- of any payload of at most 14,336 bytes and any version from 1 on that has 64 bits; and of any bytes that are a good image
+pub record ImagesWrittenOut : Type 0 where
+  pub over-128-records : (payload : List ℕ) → (128 <? partsOf payload) ≡ (14336 <? length payload)
+  pub good-image : (payload : List ℕ) (version : ℕ) → length payload ≤ 14336 → 1 ≤ version → version ≤ 18446744073709551615
+      → imageOf (madeImage payload version) ≡ Good version
+  pub reads-back : (payload : List ℕ) (version : ℕ) → length payload ≤ 14336 → 1 ≤ version → version ≤ 18446744073709551615
+      → payloadOf (madeImage payload version) ≡ payload ++ replicate (partsOf payload * 112 - length payload) 0
+  pub its-bytes : (payload : List ℕ) (version : ℕ) → length payload ≤ 14336 → 1 ≤ version → version ≤ 18446744073709551615
+      → ((place : ℕ) → getD payload place 0 < 256) → (place : ℕ) → getD (madeImage payload version) place 0 < 256
+  pub made-again : (image : List ℕ) (version : ℕ) → ((place : ℕ) → getD image place 0 < 256) → imageOf image ≡ Good version
+      → madeImage (payloadOf image) version ≡ image
 
 -- an empty payload, version 1: one record, number 0 of 1
 abbrev pub emptyImage : List ℕ

@@ -9,7 +9,7 @@ ghost use Rattle.rules_demands.specs.Histories.{Demand3WrittenOut};
 ghost use Rattle.rules_demands.specs.Beside.{BesideWrittenOut};
 ghost use Rattle.rules_demands.specs.Examples.{CasesHeld, TextsHeld};
 ghost use Rattle.rules_demands.specs.Reports.{ReportsWrittenOut, ReportsHeld};
-ghost use Rattle.rules_demands.specs.Images.{ImagesHeld};
+ghost use Rattle.rules_demands.specs.Images.{ImagesWrittenOut, ImagesHeld};
 
 // Any call gets an answer, and a refusal leaves what it must.
 pub fn demand_1()
@@ -41,8 +41,9 @@ pub fn request_t01()
     ensures { λ r. ⌜ ReportsHeld ⌝ }
 {}
 
-// Document 02, T-02: what is made is a good image and carries its payload; what a good image carries makes it again. And examples of it.
+// Document 02, T-02: what is made is a good image and carries its payload; what a good image carries makes it again; the same written out; and examples.
 pub fn request_t02()
     ensures { λ r. ⌜ RequestT02 ⌝ }
+    ensures { λ r. ⌜ ImagesWrittenOut ⌝ }
     ensures { λ r. ⌜ ImagesHeld ⌝ }
 {}
