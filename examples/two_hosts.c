@@ -6,7 +6,7 @@
 
 #include "module.h"
 
-enum { IMAGE_RECORDS = 10, IMAGE_RECORD = 128, IMAGE_SIZE = IMAGE_RECORDS * IMAGE_RECORD, VERSION = 7 };
+enum { PAYLOAD_SIZE = 1100, IMAGE_RECORDS = 10, IMAGE_SIZE = IMAGE_RECORDS * MODULE_IMAGE_RECORD, VERSION = 7 };
 
 /* What outlives power. */
 static uint8_t slots[MODULE_SLOTS_SIZE];
@@ -144,21 +144,13 @@ static void show_versions(void)
         printf("        running version %u, staged version %u\n", (unsigned)get(answer + 28, 8), (unsigned)get(answer + 36, 8));
 }
 
-/* An image: records of 128 bytes, each with its number, their count, the version, a payload and the sum of its other words. */
-static void make_image(uint8_t image[IMAGE_SIZE])
+/* The image of a payload, as the build room makes it. 1 where it is made. */
+static int make_image(uint8_t image[IMAGE_SIZE])
 {
-    memset(image, 0x5A, IMAGE_SIZE);
-    for (int i = 0; i < IMAGE_RECORDS; i++) {
-        uint8_t *at = image + i * IMAGE_RECORD;
-        uint32_t sum = 0;
+    uint8_t payload[PAYLOAD_SIZE];
 
-        put(at, 2, (uint64_t)i);
-        put(at + 2, 2, IMAGE_RECORDS);
-        put(at + 4, 8, VERSION);
-        for (int word = 0; word < IMAGE_RECORD - 4; word += 4)
-            sum += (uint32_t)get(at + word, 4);
-        put(at + IMAGE_RECORD - 4, 4, sum);
-    }
+    memset(payload, 0x5A, sizeof payload);
+    return image_make(VERSION, payload, sizeof payload, image, IMAGE_SIZE) == IMAGE_SIZE;
 }
 
 /* The bench sends the whole image; in between the laptop tries a piece of its own. */
@@ -178,7 +170,8 @@ int main(void)
     uint8_t image[IMAGE_SIZE];
     uint32_t context = 0, other = 0;
 
-    make_image(image);
+    if (!make_image(image))
+        return 1;
     /* This module is new at each start of the program. Yours is made once in its life; after that it only comes up again. */
     if (!make() || !power_up())
         return 1;

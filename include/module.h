@@ -140,6 +140,7 @@ extern "C" {
  * A Send's piece may begin and end anywhere in it. Bytes of any other form are received all the same, and fail at the last tick. */
 #define MODULE_IMAGE_RECORD 128
 #define MODULE_IMAGE_MOST 128
+#define MODULE_IMAGE_PART 112      /* the payload of one record */
 
 /* A new module's record: Idle, running version 1, everything else zero or off. Once in a module's life.
  *
@@ -248,6 +249,29 @@ int32_t slots_select(uint8_t *slots, size_t slots_len, uint64_t slot);
  * Answers: 0; MODULE_REFUSED where slots_len is not MODULE_SLOTS_SIZE, record_len not MODULE_RECORD_SIZE, or the selector
  *          neither 0 nor 1. */
 int32_t slots_read(const uint8_t *slots, size_t slots_len, uint8_t *record, size_t record_len);
+
+/* ---- Images made, and read back ---- */
+
+#define IMAGE_VERSION_0 (-1)     /* image_make: the version is 0 */
+#define IMAGE_OVER_128 (-2)      /* image_make: the payload is over 128 records, which is over 14,336 bytes */
+#define IMAGE_MAKE_ROOM (-3)     /* image_make: the output is too short */
+#define IMAGE_NOT_GOOD (-1)      /* image_read: not a good image */
+#define IMAGE_READ_ROOM (-2)     /* image_read: the output is too short */
+
+/* The image of a payload, which a module accepts as a good image of this version: the payload is cut into parts of
+ * MODULE_IMAGE_PART bytes, the last filled with zeros, one to a record; an empty payload makes one record.
+ *
+ * Reads:   payload, the length of the output; none of its bytes.
+ * Writes:  the image at the front of output, MODULE_IMAGE_RECORD bytes for each record, and no byte behind it.
+ * Answers: the length of the image; IMAGE_VERSION_0, IMAGE_OVER_128 or IMAGE_MAKE_ROOM, looked for in this order. */
+int32_t image_make(uint64_t version, const uint8_t *payload, size_t payload_len, uint8_t *output, size_t output_len);
+
+/* The payload that an image carries, with the zeros that fill its last part. The image is tested as module_tick tests it.
+ *
+ * Reads:   image, the length of the output; none of its bytes.
+ * Writes:  the payload at the front of output, MODULE_IMAGE_PART bytes for each record, and no byte behind it.
+ * Answers: the length of the payload with its zeros; IMAGE_NOT_GOOD or IMAGE_READ_ROOM, looked for in this order. */
+int32_t image_read(const uint8_t *image, size_t image_len, uint8_t *output, size_t output_len);
 
 #ifdef __cplusplus
 }

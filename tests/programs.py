@@ -48,7 +48,17 @@ NEARLY_FULL = ("reports_full", 4294967285,
 
 
 # The files of the independent program that are compiled for it, main's last.
-INDEPENDENT = ("module", "report", "replay")
+INDEPENDENT = ("module", "image", "image_files", "report", "replay")
+
+
+# The program behind bin/image, which takes no logs: its crate. tests/stdout writes that crate's files too, and tests/images tries it.
+IMAGES = "images"
+LONGEST_PAYLOAD = 14336     # document 02, T-02: 128 records of 112 bytes
+
+
+def payload(size):
+    """A payload of so many bytes, no part of which is like another."""
+    return bytes((7 * place + place // 112 * 31 + 1) % 256 for place in range(size))
 
 
 class Unready(Exception):
@@ -125,7 +135,10 @@ def stale(path, crate):
 
 def proved(name, folder=None):
     """The command of the proved program of a text, from target/bin or another folder."""
-    crate = PROGRAMS[name].crate
+    return proved_crate(PROGRAMS[name].crate, folder)
+
+
+def proved_crate(crate, folder=None):
     path = pathlib.Path(folder or ROOT / "target" / "bin") / crate
     if not path.is_file():
         raise Unready(f"{path} is not there: 'rt check {crate}' builds it")

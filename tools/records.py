@@ -10,6 +10,7 @@ REQUEST_MOST = 536
 AREA = 16384
 IMAGE_RECORD = 128
 IMAGE_MOST = 128
+IMAGE_PART = 112
 PASSPHRASE = 32
 
 CALL, TICK, POWER = 1, 2, 3
@@ -120,7 +121,7 @@ def word_sum(body):
 
 
 def image_record(i, count, version, payload):
-    body = le(i, 2) + le(count, 2) + le(version, 8) + payload.ljust(112, b"\0")
+    body = le(i, 2) + le(count, 2) + le(version, 8) + payload.ljust(IMAGE_PART, b"\0")
     return body + le(word_sum(body), 4)
 
 
@@ -147,6 +148,12 @@ def image(records, version, payload=None, fault=None, at=None, size=None):
         size = len(whole) - 1 if size is None else size
         whole = whole[:size].ljust(size, b"\0")
     return whole
+
+
+def made_image(version, payload):
+    """The image that is made from a payload: parts of 112 bytes, the last padded, and one record where there is no byte."""
+    parts = [payload[at:at + IMAGE_PART] for at in range(0, len(payload), IMAGE_PART)] or [b""]
+    return b"".join(image_record(i, len(parts), version, part) for i, part in enumerate(parts))
 
 
 def pieces(data, sizes):

@@ -34,6 +34,7 @@ Send's offset is, if not said, where its piece begins in the image; its length t
 An image is: image KIND version N records N, and at I (the record with the fault), size N, payload BYTES. KIND is good,
 bad-size (size bytes; one too few if not said), bad-number, bad-count, bad-version (another than in the other records),
 zero-version (in all records, or at one) or bad-sum. But for bad-sum the sums are right, so one fault stands alone.
+Or it is: image made version N payload BYTES, what is made from a payload of up to 14336 bytes, cut into as many records as it takes.
 
 FORM is kind N, host N, length N or padding [byte B], on what is else a Start by host 1; or tick [byte B], power [byte B].
 bad and raw take times N. A line makes at most 100000 records.
@@ -75,7 +76,7 @@ CALLS = {
 BAD = {"kind": {"kind": (0, BYTE)}, "host": {"host": (0, BYTE)}, "length": {"length": (0, HALF)},
        "padding": {"byte": (8, records.RECORD - 1)}, "tick": {"byte": (1, records.RECORD - 1)},
        "power": {"byte": (1, records.RECORD - 1)}}
-IMAGES = {"good": None, "bad-size": "size", "bad-number": "number", "bad-count": "count", "bad-version": "version",
+IMAGES = {"good": None, "made": None, "bad-size": "size", "bad-number": "number", "bad-count": "count", "bad-version": "version",
           "zero-version": "zero-version", "bad-sum": "sum"}
 TIMES = {"times": (1, 100000)}
 
@@ -208,7 +209,18 @@ def at_most(data, most, name):
     return data
 
 
+def made_image(fields):
+    if "version" not in fields or "payload" not in fields or set(fields) & {"records", "at", "size"}:
+        raise Wrong("image made wants version and payload alone")
+    if fields["version"] == 0:
+        raise Wrong("no image is made of version 0")
+    payload = at_most(fields["payload"], records.IMAGE_MOST * records.IMAGE_PART, "payload")
+    return records.made_image(fields["version"], payload)
+
+
 def image_of(fields):
+    if fields["image"] == "made":
+        return made_image(fields)
     if "records" not in fields or "version" not in fields:
         raise Wrong("an image wants version and records")
     fault = IMAGES[fields["image"]]
@@ -221,7 +233,7 @@ def image_of(fields):
         raise Wrong("version 0 is image zero-version, with the version of the payload")
     payload = fields.get("payload")
     if payload is not None:
-        at_most(payload, 112, "payload")
+        at_most(payload, records.IMAGE_PART, "payload")
     return records.image(fields["records"], fields["version"], payload, fault, at, fields.get("size"))
 
 

@@ -1,6 +1,8 @@
 /* The module's rules, in the order of document 01. */
 #include "module.h"
 
+#include "image.h"
+
 /* An answer's first four bytes as one number: status, then extended number. */
 enum {
     DONE = 0,
@@ -28,7 +30,7 @@ enum {
     FREEZE = 23
 };
 
-enum { SEND_HEAD = 12, IMAGE_RECORD = 128, IMAGE_RECORDS_MOST = 128, SUM_AT = 124 };
+enum { SEND_HEAD = 12 };
 
 /* ---- The device record ---- */
 
@@ -217,27 +219,17 @@ static uint32_t query(const struct device *device, const uint8_t *request, uint8
     return DONE;
 }
 
-/* The sum of the 31 words before an image record's last. */
-static uint32_t word_sum(const uint8_t *record)
+uint64_t image_version(const uint8_t *image, size_t length)
 {
-    uint32_t sum = 0;
+    size_t count = length / IMAGE_RECORD;
 
-    for (size_t at = 0; at < SUM_AT; at += 4)
-        sum += get32(record + at);
-    return sum;
-}
-
-/* The version of the image in the first `received` bytes; 0 if it is not good. */
-static uint64_t image_version(const uint8_t *area, uint32_t received)
-{
-    uint32_t count = received / IMAGE_RECORD;
-
-    if (received % IMAGE_RECORD != 0 || count < 1 || count > IMAGE_RECORDS_MOST)
+    if (length % IMAGE_RECORD != 0 || count < 1 || count > IMAGE_RECORDS_MOST)
         return 0;
-    uint64_t version = get64(area + 4);
-    for (uint32_t i = 0; i < count; i++) {
-        const uint8_t *record = area + i * IMAGE_RECORD;
-        if (get16(record) != i || get16(record + 2) != count || get64(record + 4) != version
+    uint64_t version = get64(image + VERSION_AT);
+    for (size_t i = 0; i < count; i++) {
+        const uint8_t *record = image + i * IMAGE_RECORD;
+        if (get16(record + NUMBER_AT) != i || get16(record + COUNT_AT) != count
+            || get64(record + VERSION_AT) != version
             || get32(record + SUM_AT) != word_sum(record))
             return 0;
     }

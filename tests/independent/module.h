@@ -45,6 +45,9 @@ void device_fresh(struct device *device);
 /* Any other record is refused with R3. */
 bool device_possible(const struct device *device);
 
+/* The version of an image, 0 if the bytes are not a good one. */
+uint64_t image_version(const uint8_t *image, size_t length);
+
 /* The length of the answer written, or R1, R2 or R3 with nothing written.
  * The buffers must not overlap. */
 int32_t device_call(struct device *device, uint8_t *area, size_t area_len, uint64_t revision,

@@ -3,10 +3,14 @@
  *    independent replay FILE..    the replay text of document 01
  *    independent answers FILE..   every answer's bytes, then the whole end state
  *    independent report FILE..    one report over all logs: which host got which answers
+ *
+ * The program's other word, image, is done in image_files.c.
  */
 #include <stdio.h>
 #include <stdlib.h>
 
+#include "files.h"
+#include "image_files.h"
 #include "module.h"
 #include "report.h"
 
@@ -300,16 +304,12 @@ static const char *replay_log(struct replay *replay, FILE *log)
 /* Whether the log was taken. */
 static bool replay_file(struct replay *replay, const char *name)
 {
-    bool standard = strcmp(name, "-") == 0;
-    FILE *log = standard ? stdin : fopen(name, "rb");
+    FILE *log = open_named(name);
     const char *wrong = log != NULL ? replay_log(replay, log) : "cannot be read";
 
-    if (wrong != NULL) {
-        fflush(stdout);
-        fprintf(stderr, "independent: %s: %s\n", name, wrong);
-    }
-    if (log != NULL && !standard)
-        fclose(log);
+    if (wrong != NULL)
+        complain(name, wrong);
+    close_named(log);
     return wrong == NULL;
 }
 
@@ -338,9 +338,23 @@ static int misused(void)
           "usage: independent replay FILE..\n"
           "       independent answers FILE..\n"
           "       independent report [--from NUMBER] FILE..\n"
+          "       independent image make VERSION FILE\n"
+          "       independent image read FILE\n"
           "A FILE of - is standard input. Every count of a report begins at NUMBER, or at 0.\n",
           stderr);
     return 2;
+}
+
+static int image(int count, char **arguments)
+{
+    uint64_t version;
+
+    if (count == 5 && strcmp(arguments[2], "make") == 0
+        && get_number(arguments[3], 18446744073709551615u, &version))
+        return image_make_file(version, arguments[4]);
+    if (count == 4 && strcmp(arguments[2], "read") == 0)
+        return image_read_file(arguments[3]);
+    return misused();
 }
 
 int main(int count, char **arguments)
@@ -352,6 +366,8 @@ int main(int count, char **arguments)
 
     if (count < 3)
         return misused();
+    if (strcmp(arguments[1], "image") == 0)
+        return image(count, arguments);
     if (strcmp(arguments[1], "replay") == 0)
         replay.text = REPLAY;
     else if (strcmp(arguments[1], "answers") == 0)

@@ -1,9 +1,11 @@
-// The module for C: the device record as bytes, the entry points under C names. None asks anything of its caller. include/module.h is its header.
+// The module for C: the device record as bytes, the entry points under C names; and images made and read back. None asks anything of its caller.
+// include/module.h is its header.
 ghost use mathlib.Core.Path.{_≡_};
 ghost use Rattle.rules.specs.Record.{moduleOf};
 ghost use Rattle.rules.specs.Module.{callResult, tickResult, powerResult};
 ghost use Rattle.device_bytes.specs.Encoding.{decodeOf};
 ghost use Rattle.device_slots.specs.Slots.{freshNumber, freshSlots, writeNumber, writeSlots, selectNumber, selectSlots, readNumber, readRecord};
+ghost use Rattle.abi_images.specs.Told.{makeNumber, makeOutput, readNumber as readBackNumber, readOutput};
 ghost use Rattle.abi.specs.Abi.{Called, Happened, Made};
 use device_encode::ENCODED_SIZE;
 
@@ -81,4 +83,20 @@ pub extern "C" fn slots_read(slots: &[u8], bytes: &mut [u8]) -> i32
     ensures { λ r. ⌜ now (bytes .exit) ≡ readRecord (now (slots .entry)) (now (bytes .entry)) ⌝ }
 {
     device_slots::read(slots, bytes)
+}
+
+#[no_mangle]
+pub extern "C" fn image_make(version: u64, payload: &[u8], output: &mut [u8]) -> i32
+    ensures { λ r. ⌜ r ≡ makeNumber version (now (payload .entry)) (now (output .entry)) ⌝ }
+    ensures { λ r. ⌜ now (output .exit) ≡ makeOutput version (now (payload .entry)) (now (output .entry)) ⌝ }
+{
+    abi_images::make(version, payload, output)
+}
+
+#[no_mangle]
+pub extern "C" fn image_read(image: &[u8], output: &mut [u8]) -> i32
+    ensures { λ r. ⌜ r ≡ readBackNumber (now (image .entry)) (now (output .entry)) ⌝ }
+    ensures { λ r. ⌜ now (output .exit) ≡ readOutput (now (image .entry)) (now (output .entry)) ⌝ }
+{
+    abi_images::read(image, output)
 }

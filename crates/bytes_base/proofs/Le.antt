@@ -1,20 +1,9 @@
--- Laws of numbers as bytes, stated over the width.
-use mathlib.Core.{Path.{_≡_, refl, ap}, List.{List, _++_, append-nil}}
-use Prim.Native.Nat.{ℕ, zero, suc, _≤_, _<_, _+_, _-_, _^_, _/_, _%_}
-use native.Mathlib.{Nat.{pow-suc, div-lt-iff-lt-mul}, Numerals.add-one, Omega.arith}
+-- Laws of the loop that writes a number's bytes.
+use mathlib.Core.{Path._≡_, List.{List, _++_, append-nil}}
+use Prim.Native.Nat.{ℕ, suc, _≤_, _<_, _+_, _-_, _/_, _%_}
+use native.Mathlib.{Numerals.add-one, Omega.arith}
 use lib.{ListN.{length, take, set}, Seq.{take-suc-set, append-snoc, take-all}}
-use Rattle.rules.specs.Bytes.{le, ofLe}
-
-pub length-le : (k n : ℕ) → length (le k n) ≡ k
-length-le zero n = refl
-length-le (suc k) n = ap suc (length-le k (n / 256))
-
--- reading back what was written
-pub ofLe-le : (k n : ℕ) → n < 256 ^ k → ofLe (le k n) ≡ n
-ofLe-le zero n h = omega arith
-ofLe-le (suc k) n h =
-    let g : n / 256 < 256 ^ k = div-lt-iff-lt-mul {k = 256} (omega arith) .1 (rw pow-suc at h) in
-    rw (ofLe-le k (n / 256) g) (omega arith)
+use Rattle.rules.specs.Bytes.{le}
 
 -- the writing loop: a turn, and the end
 module _ (out : List ℕ) (i L m n : ℕ) (long : length out ≡ L) (whole : take i out ++ le (L - i) m ≡ le L n) where

@@ -4,8 +4,7 @@ use Prim.Native.Nat.{ℕ, _≤_, _+_, _-_}
 use native.Mathlib.{Nat.add-sub-cancel-left, Omega.arith}
 use lib.{ListN.{length, take, drop, length-append, length-drop, drop-of-length-le}, Seq.{take-at, take-all, drop-at, drop-drop, length-take-le}}
 use borrow.Rule.Slice.PartMut.{putMid, post-is, mid-len}
-use Rattle.rules.specs.Bytes.{splice, le}
-use Rattle.bytes_base.proofs.Le.{length-le}
+use Rattle.rules.{specs.Bytes.{splice, le}, proofs.page.Le.length-le}
 
 -- the whole, once a part from a to e has come back as ys
 pub lent : (a e : ℕ) (xs ys : List ℕ) → a ≤ e → a + length ys ≡ e → putMid a (e - a) xs ys ≡ splice a ys xs

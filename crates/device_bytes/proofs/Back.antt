@@ -5,7 +5,7 @@ use Prim.Native.Nat.{ℕ, _<_, _+_, _^_}
 use lib.{ListN.{length, take, drop, length-append}, Seq.{take-at, drop-at}}
 use Rattle.rules.{specs.Tests.{_≤?_, _=?_}, specs.Bytes.{le, ofLe, numberAt, zeros, zeros?}, specs.Record.phaseNumber, specs.declared.Phase.Phase}
 use Rattle.rules.{specs.declared.Phase.the-variants.{Idle, Receiving, Verifying, Staged, Failed}, specs.declared.Device.Device}
-use Rattle.bytes_base.proofs.Le.{ofLe-le}
+use Rattle.rules.proofs.page.Le.{ofLe-le}
 use Rattle.device_bytes.specs.Encoding.{flag, firstBytes, transferBytes, encodedThresholds, encodeOf, phaseOf, record?, recordOf, decodeOf}
 
 -- what the types say of a record's fields

@@ -1,12 +1,11 @@
--- Laws of the loop over the records, of a good size, and of what the tests together say.
+-- Laws of the loop over the records, and of what the tests together say.
 -- Assumes nothing.
 use mathlib.Core.{Path.{_≡_, sym, _∙_, ap}, Bool.{Bool, true, false, not, _&&_}, List.List}
 use Prim.Native.Nat.{ℕ, suc, _+_, _-_, _*_, _/_, _≤_, _<_}
 use native.Mathlib.{Nat.add-sub-cancel-left, Omega.arith}
-use lib.{Dec.{leb, eqb}, ListN.{length, take, drop}, Seq.drop-drop}
-use borrow.Author.Tests.{leb-true, eqb-true}
+use lib.{ListN.{length, take, drop}, Seq.drop-drop}
 use Rattle.rules.{specs.Image.{goodRecord, goodRecords, goodSize, versionOf, goodImage, imageOf}, specs.Tests.{_=?_, if_then_else_}}
-use Rattle.rules.{specs.declared.Image.the-variants.{Good, Bad}, proofs.page.Choice.and-true}
+use Rattle.rules.specs.declared.Image.the-variants.{Good, Bad}
 
 -- the records from number i on are record i and those from the next on
 records-from : (n version i : ℕ) (bytes : List ℕ) → i < n
@@ -44,20 +43,6 @@ module _ (n version i : ℕ) (bytes : List ℕ)
     no-record-left h =
         let none : n - i ≡ 0 = omega arith in
         rw none at whole
-
--- a good size is 1 to 128 records
-pub record Sized (received : ℕ) : Type 0 where
-  pub whole : received ≡ received / 128 * 128
-  pub some : 1 ≤ received / 128
-  pub few : received / 128 ≤ 128
-
-pub good-size : (bytes : List ℕ) → goodSize bytes ≡ true → Sized (length bytes)
-good-size bytes e =
-    let received = length bytes in
-    let n = received / 128 in
-    let ends = and-true (eqb received (n * 128) && leb 1 n) (leb n 128) e in
-    let starts = and-true (eqb received (n * 128)) (leb 1 n) (ends .0) in
-    record { whole = eqb-true received (n * 128) (starts .0); some = leb-true 1 n (starts .1); few = leb-true n 128 (ends .1) }
 
 -- bytes of another size are bad
 pub bad-size : (bytes : List ℕ) → goodSize bytes ≡ false → Bad ≡ imageOf bytes

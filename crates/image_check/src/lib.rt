@@ -3,6 +3,9 @@ ghost use mathlib.Core.Path.{_≡_};
 ghost use Prim.Native.Nat.{_*_};
 ghost use lib.ListN.{length};
 ghost use Rattle.rules.specs.Image.{goodRecords, imageOf};
+use rules::IMAGE_RECORD;
+use rules::MOST_RECORDS;
+use rules::VERSION_PLACE;
 
 // All n records are good. The first bad one decides.
 fn good_records(n: u16, version: u64, bytes: &[u8]) -> bool
@@ -11,8 +14,8 @@ fn good_records(n: u16, version: u64, bytes: &[u8]) -> bool
 {
     let mut i: u16 = 0;
     while i < n {
-        let at = (i as usize) * 128;
-        let end = at + 128;
+        let at = (i as usize) * IMAGE_RECORD;
+        let end = at + IMAGE_RECORD;
         let good = image_record::good_record(i, n, version, &bytes[at..end]);
         if !good {
             return false;
@@ -27,12 +30,12 @@ pub fn image(bytes: &[u8]) -> rules::Image
     ensures { λ r. ⌜ r ≡ imageOf (now (bytes .entry)) ⌝ }
 {
     let received = bytes.len();
-    let n = received / 128;
-    let sized = (received == n * 128) & (1 <= n) & (n <= 128);
+    let n = received / IMAGE_RECORD;
+    let sized = (received == n * IMAGE_RECORD) & (1 <= n) & (n <= MOST_RECORDS);
     if !sized {
         return rules::Image::Bad;
     }
-    let version = bytes_numbers::long(bytes, 4);
+    let version = bytes_numbers::long(bytes, VERSION_PLACE);
     let zero = version == 0;
     if zero {
         return rules::Image::Bad;

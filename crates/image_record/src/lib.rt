@@ -1,13 +1,16 @@
 // Document 01, "Good image": whether the 128 bytes of one record are good.
 ghost use mathlib.Core.Path.{_≡_};
-ghost use Prim.Native.Nat.{_%_, _^_};
 ghost use lib.ListN.{length};
-ghost use Rattle.rules.specs.Image.{sumOfWords, goodRecord};
+ghost use Rattle.rules.specs.Image.{recordSum, goodRecord};
+use rules::COUNT_PLACE;
+use rules::NUMBER_PLACE;
+use rules::SUM_PLACE;
+use rules::VERSION_PLACE;
 
 // The sum of a record's first 31 words, which wraps at 32 bits.
-fn sum(record: &[u8]) -> u32
+pub fn sum(record: &[u8]) -> u32
     requires { ⌜ length (now «record») ≡ 128 ⌝ }
-    ensures { λ r. ⌜ r ≡ sumOfWords 31 (now («record» .entry)) % 2 ^ 32 ⌝ }
+    ensures { λ r. ⌜ r ≡ recordSum (now («record» .entry)) ⌝ }
 {
     let mut sum: u32 = 0;
     let mut word: usize = 0;
@@ -25,11 +28,11 @@ pub fn good_record(i: u16, n: u16, version: u64, record: &[u8]) -> bool
     requires { ⌜ length (now «record») ≡ 128 ⌝ }
     ensures { λ r. ⌜ r ≡ goodRecord i n version (now («record» .entry)) ⌝ }
 {
-    let good_fields = (bytes_numbers::half(record, 0) == i)
-        & (bytes_numbers::half(record, 2) == n)
-        & (bytes_numbers::long(record, 4) == version);
+    let good_fields = (bytes_numbers::half(record, NUMBER_PLACE) == i)
+        & (bytes_numbers::half(record, COUNT_PLACE) == n)
+        & (bytes_numbers::long(record, VERSION_PLACE) == version);
     if !good_fields {
         return false;
     }
-    bytes_numbers::word(record, 124) == sum(record)
+    bytes_numbers::word(record, SUM_PLACE) == sum(record)
 }

@@ -22,6 +22,9 @@ pub mod Possible
 pub mod Given
 pub mod Demand1
 -- Document 02.
+pub mod Le
+pub mod Records
+pub mod Images
 pub mod Counting
 pub mod Reports
 pub mod Sums

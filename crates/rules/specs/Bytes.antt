@@ -1,10 +1,14 @@
 -- Vocabulary: bytes. "All numbers in requests, answers, images, logs and stores are little-endian."
 -- A run of bytes is a list of numbers; place 0 is its first byte. In the code each is below 256; what is said here of lists holds for any numbers.
 -- Assumes nothing.
-use Prim.Native.Nat.{ℕ, zero, suc, _+_, _*_, _/_, _%_, _^_}
+use Prim.Native.Nat.{ℕ, zero, suc, _+_, _*_, _/_, _%_, _^_, _<_}
 use mathlib.Core.{List.{List, [], _∷_, _++_}, Bool.{Bool, true, false, _&&_}}
-use lib.ListN.{length, take, drop, replicate}
+use lib.ListN.{length, take, drop, replicate, getD}
 use Rattle.rules.specs.Tests.{_=?_, if_then_else_}
+
+-- every number of the list is a byte's; past the list's end there is none, which reads as 0
+abbrev pub AreBytes : List ℕ → Type 0
+AreBytes bytes = (place : ℕ) → getD bytes place 0 < 256
 
 -- the number n as so many bytes, lowest first
 abbrev pub le : ℕ → ℕ → List ℕ

@@ -11,6 +11,46 @@ use Rattle.rules.specs.declared.{Image.Image, Image.the-variants.{Good, 
 abbrev pub imageRecordSize : ℕ
 imageRecordSize = 128
 
+-- "n from 1 to 128"
+abbrev pub mostRecords : ℕ
+mostRecords = 128
+
+-- A field of an image record: its first byte's place, and how many bytes it has. What makes, accepts and reads records has its places from here alone.
+pub record Field : Type 0 where
+  pub place : ℕ
+  pub size : ℕ
+
+-- "Record i, from 0: bytes 0 to 1 hold i;"
+abbrev pub numberField : Field
+numberField = record { place = 0; size = 2 }
+
+-- "2 to 3 hold n;"
+abbrev pub countField : Field
+countField = record { place = 2; size = 2 }
+
+-- "4 to 11 a nonzero version, the same in all;"
+abbrev pub versionField : Field
+versionField = record { place = 4; size = 8 }
+
+-- "12 to 123 payload;"
+abbrev pub payloadField : Field
+payloadField = record { place = 12; size = 112 }
+
+-- "124 to 127 the sum .."
+abbrev pub sumField : Field
+sumField = record { place = 124; size = 4 }
+
+-- ".. of the 31 words before it"
+abbrev pub summedWords : ℕ
+summedWords = 31
+
+-- what a field of a record holds: its bytes, and as a number
+abbrev pub bytesIn : Field → List ℕ → List ℕ
+bytesIn field bytes = take (field .size) (drop (field .place) bytes)
+
+abbrev pub numberIn : Field → List ℕ → ℕ
+numberIn field bytes = numberAt (field .size) (field .place) bytes
+
 -- "n": how many whole records the bytes make
 abbrev pub recordsOf : List ℕ → ℕ
 recordsOf bytes = length bytes / imageRecordSize
@@ -20,14 +60,17 @@ unfoldable pub sumOfWords : ℕ → List ℕ → ℕ
 sumOfWords zero bytes = 0
 sumOfWords (suc words) bytes = numberAt 4 0 bytes + sumOfWords words (drop 4 bytes)
 
--- "Record i, from 0: bytes 0 to 1 hold i; 2 to 3 hold n; 4 to 11 a .. version, the same in all; 12 to 123 payload; 124 to 127 the sum of the 31 words
--- before it, which wraps at 32 bits."
+-- "the sum of the 31 words before it, which wraps at 32 bits."
+abbrev pub recordSum : List ℕ → ℕ
+recordSum bytes = sumOfWords summedWords bytes % 2 ^ 32
+
+-- Record i of n: the four fields that are told hold what they must; the payload may be anything.
 unfoldable pub goodRecord : (i n version : ℕ) → List ℕ → Bool
 goodRecord i n version bytes =
-    (numberAt 2 0 bytes =? i)
-    && (numberAt 2 2 bytes =? n)
-    && (numberAt 8 4 bytes =? version)
-    && (numberAt 4 124 bytes =? (sumOfWords 31 bytes) % (2 ^ 32))
+    (numberIn numberField bytes =? i)
+    && (numberIn countField bytes =? n)
+    && (numberIn versionField bytes =? version)
+    && (numberIn sumField bytes =? recordSum bytes)
 
 -- so many records, from number i on
 unfoldable pub goodRecords : (records i n version : ℕ) → List ℕ → Bool
@@ -37,11 +80,11 @@ goodRecords (suc records) i n version bytes =
 
 -- "received is n times 128, n from 1 to 128."
 abbrev pub goodSize : List ℕ → Bool
-goodSize bytes = (length bytes =? recordsOf bytes * imageRecordSize) && (1 ≤? recordsOf bytes) && (recordsOf bytes ≤? 128)
+goodSize bytes = (length bytes =? recordsOf bytes * imageRecordSize) && (1 ≤? recordsOf bytes) && (recordsOf bytes ≤? mostRecords)
 
 -- the version of record 0
 abbrev pub versionOf : List ℕ → ℕ
-versionOf bytes = numberAt 8 4 bytes
+versionOf bytes = numberIn versionField bytes
 
 -- The size, "a nonzero version", and every record.
 unfoldable pub goodImage : List ℕ → Bool

@@ -27,6 +27,21 @@ pub const LONGEST_REQUEST: u16 = 536;
 // The largest count of a report: 4,294,967,295 (document 02, T-01).
 pub const LARGEST_COUNT: u32 = 4294967295;
 
+// An image's records of 128 bytes, at most 128 of them, and the places of their fields, as in specs/Image.antt.
+pub const IMAGE_RECORD: usize = 128;
+
+pub const MOST_RECORDS: usize = 128;
+
+pub const NUMBER_PLACE: usize = 0;
+
+pub const COUNT_PLACE: usize = 2;
+
+pub const VERSION_PLACE: usize = 4;
+
+pub const PAYLOAD_PLACE: usize = 12;
+
+pub const SUM_PLACE: usize = 124;
+
 // The device record's phase.
 pub enum Phase {
     Idle,
@@ -140,4 +155,19 @@ pub struct Counts {
     pub powers: u32,
     pub bads: u32,
     pub shorts: u32,
+}
+
+// What making an image comes to: how many bytes were written, or why none was.
+pub enum Making {
+    Made { length: usize },
+    VersionZero,
+    PayloadOver128Records,
+    OutputTooShort,
+}
+
+// What reading an image back comes to, likewise.
+pub enum ReadingBack {
+    Read { length: usize },
+    NotGoodImage,
+    OutputTooShort,
 }

@@ -10,5 +10,6 @@ pub mod Beside
 pub mod Examples
 -- Document 02: reports over logs.
 pub mod Reports
+pub mod Images
 -- That demand 3 is not empty: the incident at sea, computed.
 pub mod Incident

@@ -8,3 +8,5 @@ pub mod Beside
 pub mod Examples
 -- Document 02: reports over logs.
 pub mod Reports
+-- Images made and read back, by examples.
+pub mod Images

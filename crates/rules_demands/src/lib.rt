@@ -3,11 +3,13 @@
 ghost use Rattle.rules.specs.Demand1.{Demand1};
 ghost use Rattle.rules.specs.Demand3.{Demand3};
 ghost use Rattle.rules.specs.Report.{RequestT01};
+ghost use Rattle.rules.specs.Made.{RequestT02};
 ghost use Rattle.rules_demands.specs.Calls.{Demand1WrittenOut};
 ghost use Rattle.rules_demands.specs.Histories.{Demand3WrittenOut};
 ghost use Rattle.rules_demands.specs.Beside.{BesideWrittenOut};
 ghost use Rattle.rules_demands.specs.Examples.{CasesHeld, TextsHeld};
 ghost use Rattle.rules_demands.specs.Reports.{ReportsWrittenOut, ReportsHeld};
+ghost use Rattle.rules_demands.specs.Images.{ImagesWrittenOut, ImagesHeld};
 
 // Any call gets an answer, and a refusal leaves what it must.
 pub fn demand_1()
@@ -37,4 +39,11 @@ pub fn request_t01()
     ensures { λ r. ⌜ RequestT01 ⌝ }
     ensures { λ r. ⌜ ReportsWrittenOut ⌝ }
     ensures { λ r. ⌜ ReportsHeld ⌝ }
+{}
+
+// Document 02, T-02: what is made is a good image and carries its payload; what a good image carries makes it again; the same written out; and examples.
+pub fn request_t02()
+    ensures { λ r. ⌜ RequestT02 ⌝ }
+    ensures { λ r. ⌜ ImagesWrittenOut ⌝ }
+    ensures { λ r. ⌜ ImagesHeld ⌝ }
 {}

@@ -3,8 +3,8 @@ use mathlib.Core.{Path.{_≡_, refl, sym, _∙_}, Bool.true}
 use native.Mathlib.Omega.{arith}
 use lib.ListN.{length}
 use borrow.{Author.Needs.needs, Author.Tests.{not-true, not-false}}
-use Rattle.rules.specs.Image.{goodSize}
-use Rattle.image_check.proofs.{Laws.{Sized, good-size, bad-size, by-version-and-records}, image.Statement.statement}
+use Rattle.rules.{specs.Image.goodSize, proofs.page.Images.{Sized, good-size}}
+use Rattle.image_check.proofs.{Laws.{bad-size, by-version-and-records}, image.Statement.statement}
 use Rattle.image_check.proofs.image.Tie as tie
 
 mul-sized : tie.Need-mul-sized
