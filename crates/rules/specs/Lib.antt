@@ -48,6 +48,7 @@ pub mod Refusals
 pub mod Table
 pub mod Thresholds
 pub mod Image
+pub mod Fault
 pub mod Transfer
 pub mod Security
 pub mod Module

@@ -129,6 +129,15 @@ pub struct Row {
     pub answer: usize,
 }
 
+// Why the received bytes are no good image, in the order of the tests: the size; then of a record its number, count, version and sum.
+pub enum Reason {
+    Size,
+    Number,
+    Count,
+    Version,
+    Sum,
+}
+
 // What the received bytes are.
 pub enum Image {
     Good { version: u64 },
