@@ -25,6 +25,7 @@ pub mod Demand1
 pub mod Le
 pub mod Records
 pub mod Images
+pub mod Faults
 pub mod Counting
 pub mod Reports
 pub mod Sums
