@@ -7,7 +7,7 @@ use lib.ListN.{take, drop}
 use Rattle.rules.specs.Tests.{if_then_else_, _=?_}
 use Rattle.rules.specs.Bytes.{numberAt}
 use Rattle.rules.specs.Image.{imageRecordSize, recordsOf, sumOfWords, goodRecord, goodSize, versionOf, goodImage}
-use Rattle.rules.specs.declared.{Reason.Reason, Reason.the-variants.{Size, Number, Count, Version, Sum}}
+use Rattle.rules.specs.declared.{Reason.Reason, Reason.the-variants.{Size, Number, Count, Version, Sum}, Image.Image, Image.the-variants.{Good, Bad}}
 
 -- "1 to 5", in the order in which the request names them (B9)
 abbrev pub reasonNumber : Reason → ℕ
@@ -66,6 +66,15 @@ firstFault bytes =
     if not (goodSize bytes) then Size of-record 0
     else recordsFault (recordsOf bytes) 0 (recordsOf bytes) (versionOf bytes) bytes
 
+-- what bytes with this first fault are, and with this version in their first record
+abbrev pub judged : Fault → (version : ℕ) → Image
+judged none version = Good version
+judged (reason of-record i) version = Bad reason i
+
+-- what the received bytes are: a good image with its version, or a bad one with its first fault
+unfoldable pub imageOf : List ℕ → Image
+imageOf bytes = judged (firstFault bytes) (versionOf bytes)
+
 -- record i of the bytes
 abbrev pub imageRecord : (i : ℕ) → List ℕ → List ℕ
 imageRecord i bytes = take imageRecordSize (drop (i * imageRecordSize) bytes)
@@ -94,7 +103,10 @@ pub record First (reason : Reason) (i : ℕ) (bytes : List ℕ) : Type 0 where
   pub records-before : (j : ℕ) → j < i → (test : Reason) → passes test j bytes ≡ true
   pub good-before : (j : ℕ) → j < i → goodRecord j (recordsOf bytes) (versionOf bytes) (imageRecord j bytes) ≡ true
 
--- T-03: there is no fault exactly where the image is good; and a fault is named exactly where it is the first.
+-- T-03: there is no fault exactly where the image is good; a fault is named exactly where it is the first; and so what the bytes are is good with a version
+-- exactly where they are a good image with it, bad with a fault exactly where that is their first.
 pub record RequestT03 : Type 0 where
   pub none-if-good : (bytes : List ℕ) → (firstFault bytes ≡ none) ↔ (goodImage bytes ≡ true)
   pub the-first : (bytes : List ℕ) (reason : Reason) (i : ℕ) → (firstFault bytes ≡ (reason of-record i)) ↔ First reason i bytes
+  pub good : (bytes : List ℕ) (version : ℕ) → (imageOf bytes ≡ Good version) ↔ ((goodImage bytes ≡ true) × (version ≡ versionOf bytes))
+  pub bad : (bytes : List ℕ) (reason : Reason) (i : ℕ) → (imageOf bytes ≡ Bad reason i) ↔ First reason i bytes

@@ -51,7 +51,8 @@ pub enum Phase {
     Failed,
 }
 
-// The device record's firmware part: contexts given out so far, bytes received, ticks left, running and staged version.
+// The device record's firmware part: contexts given out so far, bytes received, ticks left, running and staged version; and in Failed, of the image's first
+// fault (document 02, T-03), the reason and the faulty record's number.
 pub struct Transfer {
     pub phase: Phase,
     pub contexts: u32,
@@ -59,6 +60,8 @@ pub struct Transfer {
     pub ticks: u8,
     pub running: u64,
     pub staged: u64,
+    pub reason: u8,
+    pub faulty: u8,
 }
 
 // The three thresholds with their enable bits.
@@ -138,10 +141,10 @@ pub enum Reason {
     Sum,
 }
 
-// What the received bytes are.
+// What the received bytes are: a good image with its version, or a bad one with its first fault, a reason and a record number.
 pub enum Image {
     Good { version: u64 },
-    Bad,
+    Bad { reason: Reason, number: u8 },
 }
 
 // What a 544-byte record of a log says.

@@ -1,14 +1,14 @@
 -- Document 02, T-03: the walk over an image's records names the first fault, and none exactly where the image is good.
 -- Assumes nothing.
 use Prim.Native.Nat.{ℕ, zero, suc, _+_, _*_, _≤_, _<_}
-use mathlib.Core.{Path.{_≡_, refl, sym, _∙_, ap, subst}, Bool.{Bool, true, false, not, _&&_, true≢false, false≢true}, List.{List, [], _∷_}}
+use mathlib.Core.{Path.{_≡_, refl, sym, _∙_, ap, subst}, Logic._↔_, Bool.{Bool, true, false, not, _&&_, true≢false, false≢true}, List.{List, [], _∷_}}
 use native.Mathlib.Omega.{arith}
 use lib.{ListN.{length, take, drop}, Seq.drop-drop}
 use borrow.Author.Tests.{eq-eqb, ne-eqb, eqb-true, eqb-false, ltb-true, ltb-false, leb-true, not-true, not-false}
 use Rattle.rules.specs.{Tests.{if_then_else_, _=?_, _<?_, _≤?_}, Bytes.{ofLe, numberAt}}
 use Rattle.rules.specs.Image.{imageRecordSize, recordsOf, goodRecord, goodRecords, goodSize, versionOf, goodImage}
-use Rattle.rules.specs.Fault.{reasonNumber, Fault, none, _of-record_, numberTest, countTest, versionTest, sumTest, recordFault, _or-else_, recordsFault, firstFault, imageRecord, passes, Named, First, RequestT03}
-use Rattle.rules.specs.declared.{Reason.Reason, Reason.the-variants.{Size, Number, Count, Version, Sum}}
+use Rattle.rules.specs.Fault.{reasonNumber, Fault, none, _of-record_, numberTest, countTest, versionTest, sumTest, recordFault, _or-else_, recordsFault, firstFault, judged, imageOf, imageRecord, passes, Named, First, RequestT03}
+use Rattle.rules.specs.declared.{Reason.Reason, Reason.the-variants.{Size, Number, Count, Version, Sum}, Image.the-variants.{Good, Bad}}
 use Rattle.rules.proofs.page.Choice.{and-true, and-3}
 
 -- a fault told from none
@@ -301,9 +301,9 @@ module _ (bytes : List ℕ) where
     no-fault : firstFault bytes ≡ none → goodSize bytes ≡ true → ((j : ℕ) → j < n → (test : Reason) → passes test j bytes ≡ true) → Judged
     a-fault : (reason : Reason) (k : ℕ) → firstFault bytes ≡ (reason of-record k) → First reason k bytes → Judged
 
-  judged : Judged
+  which : Judged
   unfolding firstFault
-  judged = go (goodSize bytes) refl
+  which = go (goodSize bytes) refl
     where
       sized : goodSize bytes ≡ true → Walked n 0 → Judged
       sized e (through f all) = no-fault (rw e f) e (λ j l test. all-tests j e (all j (omega arith) (omega (arith, l))) test)
@@ -332,7 +332,7 @@ module _ (bytes : List ℕ) where
       λ x. same-reason r q (same-number (reasonNumber r) (reasonNumber q) over under) x of-record place x
 
   first-is-named : (r : Reason) (i : ℕ) → First r i bytes → firstFault bytes ≡ (r of-record i)
-  first-is-named r i a = go judged
+  first-is-named r i a = go which
     where
       passed : ((j : ℕ) → j < n → (test : Reason) → passes test j bytes ≡ true) → goodSize bytes ≡ true → (z : Reason) → Named z i bytes → passes z i bytes ≡ true
       passed all size Size m = size
@@ -346,7 +346,7 @@ module _ (bytes : List ℕ) where
       go (a-fault q k e b) = e ∙ one-first q r k i b a
 
   named-is-first : (r : Reason) (i : ℕ) → firstFault bytes ≡ (r of-record i) → First r i bytes
-  named-is-first r i f = go judged
+  named-is-first r i f = go which
     where
       go : Judged → First r i bytes
       go (no-fault e size all) = fault-apart (sym e ∙ f)
@@ -354,10 +354,61 @@ module _ (bytes : List ℕ) where
           let same = sym e ∙ f in
           subst (λ (z : ℕ). First r z bytes) (ap (placeOr i) same) (subst (λ (z : Reason). First z k bytes) (ap (reasonOr r) same) b)
 
+-- what a tick keeps of a fault: a reason from 1 to 5, and a record number up to 127
+pub record Kept (reason faulty : ℕ) : Type 0 where
+  pub some-reason : 1 ≤ reason
+  pub last-reason : reason ≤ 5
+  pub last-record : faulty ≤ 127
+
+to-5 : (r : Reason) → reasonNumber r ≤ 5
+to-5 Size = omega arith
+to-5 Number = omega arith
+to-5 Count = omega arith
+to-5 Version = omega arith
+to-5 Sum = omega arith
+
+few-records : (bytes : List ℕ) → goodSize bytes ≡ true → recordsOf bytes ≤ 128
+few-records bytes e = leb-true (recordsOf bytes) 128 (and-3 (length bytes =? recordsOf bytes * imageRecordSize) (1 ≤? recordsOf bytes) (recordsOf bytes ≤? 128) e .2)
+
+first-kept : (bytes : List ℕ) (r : Reason) (i : ℕ) → First r i bytes → i ≤ 127
+first-kept bytes Size i a = omega (arith, a .named)
+first-kept bytes Number i a = omega (arith, a .named, few-records bytes (a .tests-before Size (omega arith)))
+first-kept bytes Count i a = omega (arith, a .named, few-records bytes (a .tests-before Size (omega arith)))
+first-kept bytes Version i a = omega (arith, a .named, few-records bytes (a .tests-before Size (omega arith)))
+first-kept bytes Sum i a = omega (arith, a .named, few-records bytes (a .tests-before Size (omega arith)))
+
+-- what the bytes are says what their first fault is
+bad-fault : (f : Fault) (version : ℕ) (r : Reason) (i : ℕ) → judged f version ≡ Bad r i → f ≡ (r of-record i)
+bad-fault none version r i e = let z : _≡_ {A = ℕ} 0 1 = cc in absurd (omega arith)
+bad-fault (q of-record k) version r i e = let same : q ≡ r = cc in let place : k ≡ i = cc in λ x. same x of-record place x
+
+pub bad-kept : (bytes : List ℕ) (r : Reason) (i : ℕ) → imageOf bytes ≡ Bad r i → Kept (reasonNumber r) i
+unfolding imageOf
+bad-kept bytes r i e =
+    let fault = bad-fault (firstFault bytes) (versionOf bytes) r i e in
+    record { some-reason = from-1 r; last-reason = to-5 r; last-record = first-kept bytes r i (named-is-first bytes r i fault) }
+
+good-fault : (f : Fault) (own version : ℕ) → judged f own ≡ Good version → (f ≡ none) × (version ≡ own)
+good-fault none own version e = let same : own ≡ version = cc in (refl, sym same)
+good-fault (q of-record k) own version e = let z : _≡_ {A = ℕ} 0 1 = cc in absurd (omega arith)
+
+is-good : (bytes : List ℕ) (version : ℕ) → (imageOf bytes ≡ Good version) ↔ ((goodImage bytes ≡ true) × (version ≡ versionOf bytes))
+unfolding imageOf
+is-good bytes version =
+    (λ e. let f = good-fault (firstFault bytes) (versionOf bytes) version e in (none-good bytes (f .0), f .1),
+    λ g. rw (good-none bytes (g .0), g .1))
+
+is-bad : (bytes : List ℕ) (r : Reason) (i : ℕ) → (imageOf bytes ≡ Bad r i) ↔ First r i bytes
+unfolding imageOf
+is-bad bytes r i =
+    (λ e. named-is-first bytes r i (bad-fault (firstFault bytes) (versionOf bytes) r i e), λ a. rw (first-is-named bytes r i a))
+
 -- T-03.
 pub request-T03 : RequestT03
 request-T03 =
     record {
       none-if-good = λ bytes. (none-good bytes, good-none bytes);
       the-first = λ bytes reason i. (named-is-first bytes reason i, first-is-named bytes reason i);
+      good = is-good;
+      bad = is-bad;
     }
