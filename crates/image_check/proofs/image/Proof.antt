@@ -1,10 +1,10 @@
 -- `image_check::image` meets its contract: its tests are those of the definition, in its order.
-use mathlib.Core.{Path.{_≡_, refl, sym, _∙_}, Bool.true}
+use mathlib.Core.{Path.{_≡_, sym, _∙_}, Bool.true}
 use native.Mathlib.Omega.{arith}
-use lib.ListN.{length}
+use lib.{ListN.{length, take}, Seq.length-take-le}
 use borrow.{Author.Needs.needs, Author.Tests.{not-true, not-false}}
 use Rattle.rules.{specs.Image.goodSize, proofs.page.Images.{Sized, good-size}}
-use Rattle.image_check.proofs.{Laws.{bad-size, by-version-and-records}, image.Statement.statement}
+use Rattle.image_check.proofs.{Laws.{bad-size, by-records, zero-has-fault, zero-decides}, image.Statement.statement}
 use Rattle.image_check.proofs.image.Tie as tie
 
 mul-sized : tie.Need-mul-sized
@@ -25,28 +25,43 @@ long-requires c κs =
     let s = sized c in
     omega arith
 
-returns-2 : tie.Need-returns-2
-returns-2 c = by-version-and-records _ _ (size (c .before .before)) (c .before .long .ensures) (c .if2 .taken) refl
+front : (c : tie.Else1) → length (take 128 (c .before .before .args .bytes .now)) ≡ 128
+front c =
+    let s = sized c in
+    length-take-le 128 (c .before .before .args .bytes .now) (omega (arith, s .whole, s .some))
 
-cast-good-records : tie.Need-cast-good-records
-cast-good-records c =
+cast-fault : tie.Need-cast-fault
+cast-fault c =
     let s = sized (c .before .before) in
     omega arith
 
-good-records-requires : tie.Need-good-records-requires
-good-records-requires c κs = sized (c .before .before) .whole
+slice-aggregate-fault : tie.Need-slice-aggregate-fault
+slice-aggregate-fault c = sym (front (c .before .before .before))
+
+fault-requires : tie.Need-fault-requires
+fault-requires c κs =
+    let k = c .before .before in
+    (front (k .before), zero-has-fault (k .before .before .before .args .bytes .now) _ (k .long .ensures) (c .before .if2 .taken))
+
+returns-2 : tie.Need-returns-2
+returns-2 c =
+    let k = c .before .before .before in
+    zero-decides _ _ (k .long .ensures) (size (k .before)) (sized (k .before) .some) (c .fault .ensures)
+
+cast-records : tie.Need-cast-records
+cast-records c =
+    let s = sized (c .before .before) in
+    omega arith
+
+records-requires : tie.Need-records-requires
+records-requires c κs =
+    let s = sized (c .before .before) in
+    (s .whole, s .few, c .before .long .ensures, c .if2 .left)
 
 returns-3 : tie.Need-returns-3
 returns-3 c =
     let k = c .before .before in
-    let bad = sym (c .before .good-records .ensures) ∙ not-true _ (c .if3 .taken) in
-    by-version-and-records _ _ (size (k .before .before)) (k .before .long .ensures) (k .if2 .left) bad
-
-returns-4 : tie.Need-returns-4
-returns-4 c =
-    let k = c .before .before in
-    let good = sym (c .before .good-records .ensures) ∙ not-false _ (c .if3 .left) in
-    by-version-and-records _ _ (size (k .before .before)) (k .before .long .ensures) (k .if2 .left) good
+    c .records .ensures ∙ by-records _ _ (size (k .before)) (k .long .ensures)
 
 pub image-spec : {M : Type 1} → statement M
 image-spec =
@@ -55,8 +70,10 @@ image-spec =
     mul-sized
     returns
     long-requires
+    cast-fault
+    slice-aggregate-fault
+    fault-requires
     returns-2
-    cast-good-records
-    good-records-requires
-    returns-3
-    returns-4)
+    cast-records
+    records-requires
+    returns-3)

@@ -167,6 +167,37 @@ none-good bytes e = sym (clean-first bytes) ∙ ap clean e
 pub good-none : (bytes : List ℕ) → goodImage bytes ≡ true → firstFault bytes ≡ none
 good-none bytes e = clean-none (firstFault bytes) (clean-first bytes ∙ e)
 
+-- where the image's version is not zero, each of its records is without a fault exactly where it is good; where it is zero, the first record has one
+clean-at : (i n : ℕ) (bytes : List ℕ) → (versionOf bytes =? 0) ≡ false
+    → clean (recordFault i n (versionOf bytes) (imageRecord i bytes)) ≡ goodRecord i n (versionOf bytes) (imageRecord i bytes)
+unfolding goodRecord
+clean-at i n bytes nonzero = go (i =? 0) refl
+  where
+    go : (b : Bool) → (i =? 0) ≡ b → clean (recordFault i n (versionOf bytes) (imageRecord i bytes)) ≡ goodRecord i n (versionOf bytes) (imageRecord i bytes)
+    go false e = clean-later i n (versionOf bytes) (imageRecord i bytes) e
+    go true e =
+        rw (eqb-true i 0 e) (clean-record 0 n (versionOf bytes) (imageRecord 0 bytes) ∙ rw (first-version bytes, nonzero, eq-eqb (versionOf bytes) (versionOf bytes) refl))
+
+pub good-clean : (i n : ℕ) (bytes : List ℕ) → (versionOf bytes =? 0) ≡ false → goodRecord i n (versionOf bytes) (imageRecord i bytes) ≡ true
+    → recordFault i n (versionOf bytes) (imageRecord i bytes) ≡ none
+good-clean i n bytes nonzero good = clean-none _ (clean-at i n bytes nonzero ∙ good)
+
+pub bad-unclean : (i n : ℕ) (bytes : List ℕ) → (versionOf bytes =? 0) ≡ false → goodRecord i n (versionOf bytes) (imageRecord i bytes) ≡ false
+    → recordFault i n (versionOf bytes) (imageRecord i bytes) ≡ none → ⊥
+unfolding clean
+bad-unclean i n bytes nonzero bad e = true≢false (sym (ap clean e) ∙ clean-at i n bytes nonzero ∙ bad)
+
+without-version : (a b d : Bool) → (a && b && false && d) ≡ false
+without-version true true d = refl
+without-version true false d = refl
+without-version false b d = refl
+
+pub zero-unclean : (n : ℕ) (bytes : List ℕ) → (versionOf bytes =? 0) ≡ true → recordFault 0 n (versionOf bytes) (imageRecord 0 bytes) ≡ none → ⊥
+unfolding clean
+zero-unclean n bytes zero? e =
+    let here = imageRecord 0 bytes in
+    true≢false (sym (ap clean e) ∙ clean-record 0 n (versionOf bytes) here ∙ rw (first-version bytes, zero?) (without-version (numberTest 0 here) (countTest n here) (sumTest here)))
+
 -- the walk over so many records from number i on: no fault in any, or the first of a record, with none before it
 module _ (bytes : List ℕ) where
   abbrev n : ℕ
@@ -394,9 +425,10 @@ good-fault (q of-record k) own version e = let z : _≡_ {A = ℕ} 0 1 = cc in a
 
 is-good : (bytes : List ℕ) (version : ℕ) → (imageOf bytes ≡ Good version) ↔ ((goodImage bytes ≡ true) × (version ≡ versionOf bytes))
 unfolding imageOf
-is-good bytes version =
-    (λ e. let f = good-fault (firstFault bytes) (versionOf bytes) version e in (none-good bytes (f .0), f .1),
-    λ g. rw (good-none bytes (g .0), g .1))
+is-good bytes version = (
+  λ e. let f = good-fault (firstFault bytes) (versionOf bytes) version e in (none-good bytes (f .0), f .1),
+  λ g. rw (good-none bytes (g .0), g .1),
+)
 
 is-bad : (bytes : List ℕ) (r : Reason) (i : ℕ) → (imageOf bytes ≡ Bad r i) ↔ First r i bytes
 unfolding imageOf
