@@ -16,12 +16,15 @@ fn possible_transfer(t: Transfer) -> bool
     let idle = n == 0;
     let verifying = n == 2;
     let staged = n == 3;
+    let failed = n == 4;
     (idle | (1 <= t.contexts))
         & (t.received <= 16384)
         & (!idle | (t.received == 0))
         & (!verifying | ((1 <= t.ticks) & (t.ticks <= 8)))
         & (verifying | (t.ticks == 0))
         & (staged | (t.staged == 0))
+        & ((!failed | ((1 <= t.reason) & (t.reason <= 5) & (t.faulty <= 127)))
+            & (failed | ((t.reason == 0) & (t.faulty == 0))))
 }
 
 // 32 bytes are zero, by four numbers and not byte by byte: a record that is judged stays whole words.

@@ -23,6 +23,8 @@ pub fn fresh() -> Device
             ticks: 0,
             running: 1,
             staged: 0,
+            reason: 0,
+            faulty: 0,
         },
         thresholds: Thresholds {
             enable: 0,

@@ -10,7 +10,7 @@ phase-number-requires c κs = search needs
 
 returns : tie.Need-returns
 unfolding possibleTransfer
-returns c = simp (c .before .before .before .before .before .before .before .phase-number .ensures)
+returns c = simp (c .before .before .before .before .before .before .before .before .before .before .before .before .phase-number .ensures)
 
 pub possible-transfer-spec : {M : Type 1} → statement M
 possible-transfer-spec = tie.close (tie.spec phase-number-requires returns)
