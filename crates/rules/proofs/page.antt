@@ -29,3 +29,4 @@ pub mod Faults
 pub mod Counting
 pub mod Reports
 pub mod Sums
+pub mod Adopting

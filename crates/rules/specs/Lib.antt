@@ -72,3 +72,4 @@ pub mod Beside
 -- Document 02.
 pub mod Report
 pub mod Made
+pub mod Adopt

@@ -5,6 +5,7 @@ ghost use Rattle.rules.specs.Demand3.{Demand3};
 ghost use Rattle.rules.specs.Report.{RequestT01};
 ghost use Rattle.rules.specs.Made.{RequestT02};
 ghost use Rattle.rules.specs.Fault.{RequestT03};
+ghost use Rattle.rules.specs.Adopt.{Adopting};
 ghost use Rattle.rules_demands.specs.Calls.{Demand1WrittenOut};
 ghost use Rattle.rules_demands.specs.Histories.{Demand3WrittenOut};
 ghost use Rattle.rules_demands.specs.Beside.{BesideWrittenOut};
@@ -48,7 +49,8 @@ pub fn request_t02()
     ensures { λ r. ⌜ ImagesHeld ⌝ }
 {}
 
-// Document 02, T-03: the fault that is named is the first, and there is none exactly where the image is good.
+// Document 02, T-03: the fault that is named is the first, and there is none exactly where the image is good; and a record kept before is possible once taken over.
 pub fn request_t03()
     ensures { λ r. ⌜ RequestT03 ⌝ }
+    ensures { λ r. ⌜ Adopting ⌝ }
 {}

@@ -39,7 +39,7 @@ pub record PartOk (s : TransferPart) : Type 0 where
   pub size : length (s .area) ≡ areaSize
 
 -- the and-6 tests of a possible record's transfer part
-abbrev test : Phase → Transfer → Bool
+abbrev pub test : Phase → Transfer → Bool
 test p t =
     (1 ≤? current t unless p is Idle)
     && (t .received ≤? areaSize)
@@ -48,7 +48,7 @@ test p t =
     && (t .ticks =? 0 unless p is Verifying)
     && (t .staged =? 0 unless p is Staged)
 
-tests : (p : Phase) (t : Transfer) → test p t ≡ true → (t .received ≤ areaSize) × PhaseOk p t
+pub tests : (p : Phase) (t : Transfer) → test p t ≡ true → (t .received ≤ areaSize) × PhaseOk p t
 tests p t e = at p (and-6 (1 ≤? current t unless p is Idle) (t .received ≤? areaSize) (p is Idle implies t .received =? 0) (p is Verifying implies 1 ≤? t .ticks && t .ticks ≤? verification)
     (t .ticks =? 0 unless p is Verifying) (t .staged =? 0 unless p is Staged) e)
   where
@@ -63,7 +63,7 @@ tests p t e = at p (and-6 (1 ≤? current t unless p is Idle) (t .received ≤? 
     at Staged h = (leb-true (t .received) areaSize (h .1), (leb-true 1 (current t) (h .0), eqb-true (t .ticks) 0 (h .4)))
     at Failed h = (leb-true (t .received) areaSize (h .1), (leb-true 1 (current t) (h .0), eqb-true (t .ticks) 0 (h .4), eqb-true (t .staged) 0 (h .5)))
 
-tested : (p : Phase) (t : Transfer) → t .received ≤ areaSize → PhaseOk p t → test p t ≡ true
+pub tested : (p : Phase) (t : Transfer) → t .received ≤ areaSize → PhaseOk p t → test p t ≡ true
 tested Idle t r h = rw (le-leb (t .received) areaSize r, eq-eqb (t .received) 0 (h .0), eq-eqb (t .ticks) 0 (h .1), eq-eqb (t .staged) 0 (h .2))
 tested Receiving t r h = rw (le-leb (t .received) areaSize r, le-leb 1 (current t) (h .0), eq-eqb (t .ticks) 0 (h .1), eq-eqb (t .staged) 0 (h .2))
 tested Verifying t r h =
@@ -72,11 +72,11 @@ tested Staged t r h = rw (le-leb (t .received) areaSize r, le-leb 1 (current t) 
 tested Failed t r h = rw (le-leb (t .received) areaSize r, le-leb 1 (current t) (h .0), eq-eqb (t .ticks) 0 (h .1), eq-eqb (t .staged) 0 (h .2))
 
 -- the tests of its fault
-abbrev faultTest : Phase → Transfer → Bool
+abbrev pub faultTest : Phase → Transfer → Bool
 faultTest p t =
     (p is Failed implies (1 ≤? t .reason && t .reason ≤? 5 && t .faulty ≤? 127)) && ((t .reason =? 0 && t .faulty =? 0) unless p is Failed)
 
-fault-tests : (p : Phase) (t : Transfer) → faultTest p t ≡ true → FaultOk p t
+pub fault-tests : (p : Phase) (t : Transfer) → faultTest p t ≡ true → FaultOk p t
 fault-tests p t e = at p (and-true (p is Failed implies (1 ≤? t .reason && t .reason ≤? 5 && t .faulty ≤? 127)) ((t .reason =? 0 && t .faulty =? 0) unless p is Failed) e)
   where
     zero : (t .reason =? 0 && t .faulty =? 0) ≡ true → (t .reason ≡ 0) × (t .faulty ≡ 0)
@@ -91,7 +91,7 @@ fault-tests p t e = at p (and-true (p is Failed implies (1 ≤? t .reason && t .
         let k = and-3 (1 ≤? t .reason) (t .reason ≤? 5) (t .faulty ≤? 127) (h .0) in
         record { some-reason = leb-true 1 (t .reason) (k .0); last-reason = leb-true (t .reason) 5 (k .1); last-record = leb-true (t .faulty) 127 (k .2) }
 
-fault-tested : (p : Phase) (t : Transfer) → FaultOk p t → faultTest p t ≡ true
+pub fault-tested : (p : Phase) (t : Transfer) → FaultOk p t → faultTest p t ≡ true
 fault-tested Idle t h = rw (eq-eqb (t .reason) 0 (h .0), eq-eqb (t .faulty) 0 (h .1))
 fault-tested Receiving t h = rw (eq-eqb (t .reason) 0 (h .0), eq-eqb (t .faulty) 0 (h .1))
 fault-tested Verifying t h = rw (eq-eqb (t .reason) 0 (h .0), eq-eqb (t .faulty) 0 (h .1))
