@@ -1,70 +1,53 @@
-use borrow.Author.Needs.{needs}
-use Rattle.abi.proofs.module_adopt.Statement.{statement}
+-- `abi::module_adopt` meets its contract. The record that the bytes say, and its two tests, decide (proofs/Adopted.antt).
+-- Assumes nothing.
+use native.Mathlib.Omega.{arith}
+use borrow.{Author.Needs.needs, Author.Tests.{not-true, not-false}}
+use Rattle.abi_keep.proofs.Numbers.{passed-on}
+use Rattle.abi.proofs.{Adopted.{stays, refused, whole, taken}, module_adopt.Statement.statement}
 use Rattle.abi.proofs.module_adopt.Tie as tie
-use Rattle.abi.proofs.module_adopt.Reads as reads
-use Rattle.abi.proofs.module_adopt.Lts as lts
-use Rattle.abi_keep.proofs.write.Reads as write-reads
-use Rattle.device_decode.proofs.decode.Reads as decode-reads
-use Rattle.device_possible.proofs.possible.Reads as possible-reads
-use Rattle.device_possible.proofs.possible_before.Reads as possible-before-reads
-use Rattle.device_record.proofs.idle_again.Reads as idle-again-reads
 
--- src/lib.rt:58:9
-decode-requires : tie.Need-decode-requires
-decode-requires c κs = search needs
-
--- src/lib.rt:59:9
-possible-requires : tie.Need-possible-requires
-possible-requires c κs = search needs
-
--- src/lib.rt:61:9
-same-length : tie.Need-same-length
-same-length c = search needs
-
--- src/lib.rt:61:9
 returns : tie.Need-returns
-returns c = ?
+returns c =
+    let k = c .before in
+    stays (k .before .before .before .before .args .bytes .now) (k .before .decode .ensures) (k .possible .ensures) (c .if1 .taken)
 
--- src/lib.rt:63:9
-possible-before-requires : tie.Need-possible-before-requires
-possible-before-requires c κs = search needs
-
--- src/lib.rt:65:9
-same-length-2 : tie.Need-same-length-2
-same-length-2 c = search needs
-
--- src/lib.rt:65:9
 returns-2 : tie.Need-returns-2
-returns-2 c = ?
+returns-2 c =
+    let k = c .before .before .before in
+    refused (k .before .before .before .before .args .bytes .now) (k .before .decode .ensures) (k .possible .ensures) (c .before .possible-before .ensures)
+    (c .before .before .if1 .left) (not-true _ (c .if2 .taken))
 
--- src/lib.rt:67:21
-idle-again-requires : tie.Need-idle-again-requires
-idle-again-requires c κs = search needs
-
--- src/lib.rt:67:5
 write-requires : tie.Need-write-requires
-write-requires c κs = ?
+write-requires c κs =
+    let b = c .before .before .before in
+    let k = b .before .before in (
+      whole (k .before .before .before .before .args .bytes .now) (k .before .decode .ensures) (k .possible .ensures) (b .possible-before .ensures)
+          (b .before .if1 .left) (not-false _ (c .before .before .if2 .left)),
+      omega arith,
+    )
 
--- src/lib.rt:54:1
-same-length-3 : tie.Need-same-length-3
-same-length-3 c = search needs
-
--- src/lib.rt:54:1
 returns-3 : tie.Need-returns-3
-returns-3 c = ?
+returns-3 c =
+    let w = c .before .before .write in
+    let i = c .before .before .before .before in
+    let b = i .before .before in
+    let k = b .before .before in
+    taken (k .before .before .before .before .args .bytes .now) (k .before .decode .ensures) (k .possible .ensures) (b .possible-before .ensures)
+    (b .before .if1 .left) (not-false _ (i .before .if2 .left)) (i .idle-again .ensures) (passed-on (w .ok) (w .ensures .0)) (w .ensures .1)
 
+-- by search: what decode, the two tests and the change need; the buffer's length
 pub module-adopt-spec : {M : Type 1} → statement M
 module-adopt-spec =
     tie.close
     (tie.spec
-    decode-requires
-    possible-requires
-    same-length
+    (λ c κs. search needs)
+    (λ c κs. search needs)
+    (λ c. search needs)
     returns
-    possible-before-requires
-    same-length-2
+    (λ c κs. search needs)
+    (λ c. search needs)
     returns-2
-    idle-again-requires
+    (λ c κs. search needs)
     write-requires
-    same-length-3
+    (λ c. search needs)
     returns-3)
