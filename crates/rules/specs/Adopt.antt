@@ -1,5 +1,5 @@
 -- Document 02, T-03, and the records that were kept before it: one in Failed has no reason, and so is possible no more. Such a record is taken over, once
--- (docs/DECISIONS.md, p).
+-- (docs/DECISIONS.md, r).
 -- Assumes nothing.
 use mathlib.Core.{Path._≡_, Logic._↔_, Bool.{Bool, true, false, _&&_, _||_}}
 use Rattle.rules.specs.Tests.{if_then_else_, _=?_}

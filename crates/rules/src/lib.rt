@@ -58,10 +58,10 @@ pub struct Transfer {
     pub contexts: u32,
     pub received: u32,
     pub ticks: u8,
-    pub running: u64,
-    pub staged: u64,
     pub reason: u8,
     pub faulty: u8,
+    pub running: u64,
+    pub staged: u64,
 }
 
 // The three thresholds with their enable bits.
