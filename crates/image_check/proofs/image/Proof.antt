@@ -1,10 +1,10 @@
--- `image_check::image` meets its contract: its tests are those of the definition, in its order.
-use mathlib.Core.{Path.{_≡_, sym, _∙_}, Bool.true}
+-- `image_check::image` meets its contract: its tests are those of the definition, in its order, and the walk stops at the first fault.
+use mathlib.Core.{Path.{_≡_, _∙_}, Bool.true}
 use native.Mathlib.Omega.{arith}
-use lib.{ListN.{length, take}, Seq.length-take-le}
+use lib.ListN.{length}
 use borrow.{Author.Needs.needs, Author.Tests.{not-true, not-false}}
 use Rattle.rules.{specs.Image.goodSize, proofs.page.Images.{Sized, good-size}}
-use Rattle.image_check.proofs.{Laws.{bad-size, by-records, zero-has-fault, zero-decides}, image.Statement.statement}
+use Rattle.image_check.proofs.{Laws.{bad-size, zero-has-fault, zero-decides, walk-has-fault, walk-decides, all-good}, image.Statement.statement}
 use Rattle.image_check.proofs.image.Tie as tie
 
 mul-sized : tie.Need-mul-sized
@@ -20,48 +20,51 @@ size c = not-false _ (c .if1 .left)
 sized : (c : tie.Else1) → Sized (length (c .before .before .args .bytes .now))
 sized c = good-size (c .before .before .args .bytes .now) (size c)
 
+cast-n : tie.Need-cast-n
+cast-n c =
+    let s = sized c in
+    omega arith
+
 long-requires : tie.Need-long-requires
 long-requires c κs =
     let s = sized c in
     omega arith
 
-front : (c : tie.Else1) → length (take 128 (c .before .before .args .bytes .now)) ≡ 128
-front c =
-    let s = sized c in
-    length-take-le 128 (c .before .before .args .bytes .now) (omega (arith, s .whole, s .some))
-
-cast-fault : tie.Need-cast-fault
-cast-fault c =
-    let s = sized (c .before .before) in
-    omega arith
-
-slice-aggregate-fault : tie.Need-slice-aggregate-fault
-slice-aggregate-fault c = sym (front (c .before .before .before))
-
-fault-requires : tie.Need-fault-requires
-fault-requires c κs =
-    let k = c .before .before in
-    (front (k .before), zero-has-fault (k .before .before .before .args .bytes .now) _ (k .long .ensures) (c .before .if2 .taken))
+faulty-requires : tie.Need-faulty-requires
+faulty-requires c κs =
+    let k = c .before in
+    let s = sized (k .before) in
+    (s .whole, omega (arith, s .some), s .few, zero-has-fault (k .before .before .before .args .bytes .now) (size (k .before)) (k .long .ensures) (c .if2 .taken))
 
 returns-2 : tie.Need-returns-2
 returns-2 c =
-    let k = c .before .before .before in
-    zero-decides _ _ (k .long .ensures) (size (k .before)) (sized (k .before) .some) (c .fault .ensures)
+    let k = c .before .before in
+    c .faulty .ensures
+    ∙ zero-decides (k .before .before .before .args .bytes .now) (size (k .before)) (k .long .ensures) (sized (k .before) .some) (c .before .if2 .taken)
 
-cast-records : tie.Need-cast-records
-cast-records c =
-    let s = sized (c .before .before) in
-    omega arith
+first-bad-requires : tie.Need-first-bad-requires
+first-bad-requires c κs = sized (c .before .before) .whole
 
-records-requires : tie.Need-records-requires
-records-requires c κs =
-    let s = sized (c .before .before) in
-    (s .whole, s .few, c .before .long .ensures, c .if2 .left)
+faulty-requires-2 : tie.Need-faulty-requires-2
+faulty-requires-2 c κs =
+    let w = c .before in
+    let k = w .before .before in
+    let s = sized (k .before) in
+    (s .whole, c .if3 .taken, s .few,
+    walk-has-fault (k .before .before .before .args .bytes .now) (size (k .before)) (k .long .ensures) (w .before .if2 .left) (w .first-bad .ensures) (c .if3 .taken))
 
 returns-3 : tie.Need-returns-3
 returns-3 c =
-    let k = c .before .before in
-    c .records .ensures ∙ by-records _ _ (size (k .before)) (k .long .ensures)
+    let w = c .before .before in
+    let k = w .before .before in
+    c .faulty2 .ensures
+    ∙ walk-decides (k .before .before .before .args .bytes .now) (size (k .before)) (k .long .ensures) (w .before .if2 .left) (w .first-bad .ensures) (c .before .if3 .taken)
+
+returns-4 : tie.Need-returns-4
+returns-4 c =
+    let w = c .before in
+    let k = w .before .before in
+    all-good (k .before .before .before .args .bytes .now) (size (k .before)) (k .long .ensures) (w .before .if2 .left) (w .first-bad .ensures) (c .if3 .left)
 
 pub image-spec : {M : Type 1} → statement M
 image-spec =
@@ -69,11 +72,11 @@ image-spec =
     (tie.spec
     mul-sized
     returns
+    cast-n
     long-requires
-    cast-fault
-    slice-aggregate-fault
-    fault-requires
+    faulty-requires
     returns-2
-    cast-records
-    records-requires
-    returns-3)
+    first-bad-requires
+    faulty-requires-2
+    returns-3
+    returns-4)
