@@ -49,9 +49,12 @@ faulty-requires-2 : tie.Need-faulty-requires-2
 faulty-requires-2 c κs =
     let w = c .before in
     let k = w .before .before in
-    let s = sized (k .before) in
-    (s .whole, c .if3 .taken, s .few,
-    walk-has-fault (k .before .before .before .args .bytes .now) (size (k .before)) (k .long .ensures) (w .before .if2 .left) (w .first-bad .ensures) (c .if3 .taken))
+    let s = sized (k .before) in (
+      s .whole,
+      c .if3 .taken,
+      s .few,
+      walk-has-fault (k .before .before .before .args .bytes .now) (size (k .before)) (k .long .ensures) (w .before .if2 .left) (w .first-bad .ensures) (c .if3 .taken),
+    )
 
 returns-3 : tie.Need-returns-3
 returns-3 c =
