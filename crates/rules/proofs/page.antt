@@ -22,10 +22,10 @@ pub mod Possible
 pub mod Given
 pub mod Demand1
 -- Document 02.
+pub mod Faults
 pub mod Le
 pub mod Records
 pub mod Images
-pub mod Faults
 pub mod Counting
 pub mod Reports
 pub mod Sums

@@ -1,12 +1,11 @@
 -- Document 02, "T-03 Failed, but why?": the first fault of the received bytes, by the tests of a good image (Image.antt) in the request's order. Readings:
 -- docs/DECISIONS.md, B9 and B10.
 -- Assumes nothing.
-use Prim.Native.Nat.{ℕ, zero, suc, _+_, _*_, _%_, _^_, _<_}
+use Prim.Native.Nat.{ℕ, zero, suc, _+_, _*_, _<_}
 use mathlib.Core.{Path._≡_, Logic._↔_, Bool.{Bool, true, false, not}, List.List}
 use lib.ListN.{take, drop}
 use Rattle.rules.specs.Tests.{if_then_else_, _=?_}
-use Rattle.rules.specs.Bytes.{numberAt}
-use Rattle.rules.specs.Image.{imageRecordSize, recordsOf, sumOfWords, goodRecord, goodSize, versionOf, goodImage}
+use Rattle.rules.specs.Image.{imageRecordSize, numberField, countField, versionField, sumField, numberIn, recordsOf, recordSum, goodRecord, goodSize, versionOf, goodImage}
 use Rattle.rules.specs.declared.{Reason.Reason, Reason.the-variants.{Size, Number, Count, Version, Sum}, Image.Image, Image.the-variants.{Good, Bad}}
 
 -- "1 to 5", in the order in which the request names them (B9)
@@ -25,19 +24,19 @@ pub data Fault : Type 0 where
 
 -- The tests of record i. Number: "bytes 0 to 1 hold i"
 abbrev pub numberTest : (i : ℕ) → List ℕ → Bool
-numberTest i bytes = numberAt 2 0 bytes =? i
+numberTest i bytes = numberIn numberField bytes =? i
 
 -- count: "2 to 3 hold n"
 abbrev pub countTest : (n : ℕ) → List ℕ → Bool
-countTest n bytes = numberAt 2 2 bytes =? n
+countTest n bytes = numberIn countField bytes =? n
 
 -- version: "4 to 11 a nonzero version, the same in all": record 0's is nonzero, and every later one's is record 0's (B10)
 abbrev pub versionTest : (i version : ℕ) → List ℕ → Bool
-versionTest i version bytes = if i =? 0 then not (numberAt 8 4 bytes =? 0) else (numberAt 8 4 bytes =? version)
+versionTest i version bytes = if i =? 0 then not (numberIn versionField bytes =? 0) else (numberIn versionField bytes =? version)
 
 -- sum: "124 to 127 the sum of the 31 words before it, which wraps at 32 bits"
 abbrev pub sumTest : List ℕ → Bool
-sumTest bytes = numberAt 4 124 bytes =? (sumOfWords 31 bytes) % (2 ^ 32)
+sumTest bytes = numberIn sumField bytes =? recordSum bytes
 
 -- "number, count, version, sum, in that order within a record"
 unfoldable pub recordFault : (i n version : ℕ) → List ℕ → Fault

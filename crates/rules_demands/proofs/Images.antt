@@ -1,12 +1,12 @@
 -- The examples of images hold, by computation over the definitions.
 -- Assumes nothing.
 use mathlib.Core.Path.{refl}
-use Rattle.rules.specs.{Image.{sumOfWords, goodRecord, goodRecords, goodImage, imageOf}}
+use Rattle.rules.specs.{Image.sumOfWords, Fault.{recordFault, recordsFault, firstFault, imageOf}}
 use Rattle.rules.specs.Made.{madeRecord, madeRecords, madeImage, carried, payloadOf, makingOf, readingOf}
 use Rattle.rules_demands.specs.Images.{ImagesHeld}
 
 pub images-held : ImagesHeld
-unfolding sumOfWords goodRecord goodRecords goodImage imageOf madeRecord madeRecords madeImage carried payloadOf makingOf readingOf
+unfolding sumOfWords recordFault recordsFault firstFault imageOf madeRecord madeRecords madeImage carried payloadOf makingOf readingOf
 images-held =
     record {
       empty-payload = refl;

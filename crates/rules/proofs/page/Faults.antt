@@ -423,7 +423,7 @@ good-fault : (f : Fault) (own version : ℕ) → judged f own ≡ Good version �
 good-fault none own version e = let same : own ≡ version = cc in (refl, sym same)
 good-fault (q of-record k) own version e = let z : _≡_ {A = ℕ} 0 1 = cc in absurd (omega arith)
 
-is-good : (bytes : List ℕ) (version : ℕ) → (imageOf bytes ≡ Good version) ↔ ((goodImage bytes ≡ true) × (version ≡ versionOf bytes))
+pub is-good : (bytes : List ℕ) (version : ℕ) → (imageOf bytes ≡ Good version) ↔ ((goodImage bytes ≡ true) × (version ≡ versionOf bytes))
 unfolding imageOf
 is-good bytes version = (
   λ e. let f = good-fault (firstFault bytes) (versionOf bytes) version e in (none-good bytes (f .0), f .1),
