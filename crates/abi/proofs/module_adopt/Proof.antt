@@ -33,7 +33,7 @@ returns-3 c =
     let b = i .before .before in
     let k = b .before .before in
     taken (k .before .before .before .before .args .bytes .now) (k .before .decode .ensures) (k .possible .ensures) (b .possible-before .ensures)
-    (b .before .if1 .left) (not-false _ (i .before .if2 .left)) (i .idle-again .ensures) (passed-on (w .ok) (w .ensures .0)) (w .ensures .1)
+    (b .before .if1 .left) (not-false _ (i .before .if2 .left)) (i .idle-again .ensures) (passed-on (w .ok) (w .ensures .number-is)) (w .ensures .bytes-are)
 
 -- by search: what decode, the two tests and the change need; the buffer's length
 pub module-adopt-spec : {M : Type 1} → statement M
