@@ -17,6 +17,9 @@
  * once in its life, and module_power for each time that power comes back. A module made fresh again would give out its
  * contexts from 1 again, and a late piece of one transfer could land in another's. The area may begin with any bytes.
  *
+ * After an update of this library, where MODULE_RECORD_LAYOUT is another number than the one kept beside the record:
+ * module_adopt, once, before anything else.
+ *
  * The library calls memcpy and memset, and nothing else.
  */
 #ifndef MODULE_LIBRARY_H
@@ -104,7 +107,18 @@ extern "C" {
 
 /* The version of the record's layout, for the caller to keep beside a record that outlives this library: the record's bytes
  * do not say it. Where a field joins the record it is another number. */
-#define MODULE_RECORD_LAYOUT 1
+#define MODULE_RECORD_LAYOUT 2
+
+/* What a record kept under layout 1 means under layout 2: the same, but in Failed. There layout 1 kept no reason, so that the
+ * record is not possible any more, and gives R3 to everything, a power cycle too; module_adopt takes it over. */
+
+/* The reasons of a fault, in the order in which they are looked for: the size of what was received; then, from record 0 up,
+ * a record's number, count, version and sum. */
+#define MODULE_FAULT_SIZE 1
+#define MODULE_FAULT_NUMBER 2
+#define MODULE_FAULT_COUNT 3
+#define MODULE_FAULT_VERSION 4 /* zero in record 0; in any other record, unlike record 0's */
+#define MODULE_FAULT_SUM 5
 
 /* The device record, little-endian:
  *
@@ -121,7 +135,9 @@ extern "C" {
  *   33      zero
  *   34-35   media temperature threshold
  *   36-37   controller temperature threshold
- *   38-63   zero
+ *   38      in Failed, the reason of the first fault, MODULE_FAULT_SIZE to MODULE_FAULT_SUM; else 0
+ *   39      in Failed, the number of its record, from 0 to 127, and 0 for MODULE_FAULT_SIZE; else 0
+ *   40-63   zero
  *   64-95   passphrase
  *   96-127  zero
  *
@@ -163,7 +179,7 @@ int32_t module_call(uint8_t *record, size_t record_len, uint8_t *area, size_t ar
                     const uint8_t *request, size_t request_len, uint8_t *answer, size_t answer_len);
 
 /* One tick: 1,000 microseconds. A module that verifies counts it, and at its last tick tells whether the bytes received are
- * a good image: then it is Staged, else Failed.
+ * a good image: then it is Staged, else Failed, with the reason and the record number of the first fault in the record.
  *
  * Reads:   record, area.
  * Writes:  record.
@@ -177,6 +193,16 @@ int32_t module_tick(uint8_t *record, size_t record_len, const uint8_t *area, siz
  * Writes:  record.
  * Answers: 0; MODULE_R2 or MODULE_R3. */
 int32_t module_power(uint8_t *record, size_t record_len, const uint8_t *area, size_t area_len);
+
+/* A record that an older library may have kept, taken over: one in Failed, which has no reason, becomes Idle with received 0;
+ * every other byte, and every byte of any other record, stays as it is. Once, after an update of the library, before anything
+ * else; a second time changes nothing. Where the record is in slots: slots_read, module_adopt, then keep the record, as under
+ * "Power loss".
+ *
+ * Reads:   record.
+ * Writes:  record, where it is in Failed without a reason.
+ * Answers: 0; MODULE_R3 where the bytes are no possible record of this library nor of the one before. */
+int32_t module_adopt(uint8_t *record, size_t record_len);
 
 /* ---- Power loss ----
  *

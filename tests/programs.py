@@ -37,6 +37,7 @@ PROGRAMS = {
     "answers": Program("answers", (
         "functions", "lengths", "mask", "thresholds", "starts", "queries", "aborts", "frozen", "ten-wrong",     # answers
         "empty", "area-stays", "ticks", "three-hosts", "edge-of-area",      # ends: idle, receiving, verifying, staged, failed
+        "fault-size", "fault-number", "fault-count", "fault-version", "fault-sum", "fault-over", "fault-power",     # faults
         "bad-records", "page")),                                            # lines: bad, short
 }
 

@@ -1,6 +1,6 @@
 """Random logs that lead deep: made(SEED, N) is log N of a seed, always the same.
 
-Whole transfers of 1 to 128 records in odd pieces, good and damaged; hosts with right, old and guessed contexts; 7, 8 and 9
+Whole transfers of 1 to 128 records in odd pieces, good, damaged and damaged twice, which the end names; hosts with right, old and guessed contexts; 7, 8 and 9
 ticks; power cycles in between; passphrases up to and past the limit; freezes; thresholds; bad and short records.
 """
 import random
@@ -123,14 +123,14 @@ class Maker:
 
     # ---- Whole transfers ----
 
-    def image(self):
+    def image(self, damaged=False):
         kind = self.chance.randrange(100)
         count = (self.chance.randint(1, 4) if kind < 50 else self.chance.randint(5, 40) if kind < 75
                  else self.chance.randint(41, 127) if kind < 90 else 128)
         version = self.pick(1, 2, self.chance.randint(1, 300), 1 << 32, 0xFFFFFFFFFFFFFFFF, self.chance.getrandbits(64) | 1)
         payload = self.pick(None, None, b"", b"\xff" * 112, self.some_bytes(112))
-        fault, at, size = None, None, None
-        if self.one_in(3):
+        fault, at, size, second, second_at = None, None, None, None, None
+        if damaged or self.one_in(3):
             fault = self.chance.choice(records.FAULTS)
             at = self.pick(0, count - 1, self.chance.randrange(count))
             if fault == "zero-version" and self.one_in(2):
@@ -140,11 +140,22 @@ class Maker:
             if fault == "size":
                 size = self.pick(0, 1, 127, 128 * count - 1, min(128 * count + 1, records.AREA),
                                  self.chance.randrange(128 * count), 128 * (count - 1))
-        whole = records.image(count, version, payload, fault, at, size)
+            if fault and self.one_in(2):
+                second, second_at = self.chance.choice(records.FAULTS[1:]), self.pick(0, count - 1, self.chance.randrange(count))
+        whole = records.image(count, version, payload, fault, at, size, second, second_at)
         self.good = whole if fault is None else None
         if fault is None and count > 1 and self.one_in(12):
             whole = whole[:128 * self.chance.randrange(1, count)]      # fewer records than they say
         return whole
+
+    def failing(self):
+        """A transfer up to its last tick, most often of a damaged image, for a log to end with."""
+        self.power()
+        self.start(self.host())
+        for offset, piece in records.pieces(self.image(damaged=True), [512]):
+            self.send(self.host(), self.contexts, offset, piece)
+        self.finish(self.host(), self.contexts)
+        self.tick(8)
 
     def sizes(self, length):
         least = max(1, length // SENDS_MOST)
@@ -361,6 +372,8 @@ class Maker:
         if kind == 5:
             self.tick(self.pick(1000, 1500))
             self.episode()
+        if self.one_in(4):
+            self.failing()
         log = b"".join(self.log)
         if self.one_in(3):
             record = self.chance.choice(self.log) if self.log else records.event(records.TICK)

@@ -109,6 +109,7 @@ def set_passphrase(current, new):
 # ---- Images ----
 
 FAULTS = ("size", "number", "count", "zero-version", "version", "sum")
+REASONS = ("size", "number", "count", "version", "sum")     # what the replay's last line calls them
 
 
 def usual_payload(i, version):
@@ -125,22 +126,23 @@ def image_record(i, count, version, payload):
     return body + le(word_sum(body), 4)
 
 
-def image(records, version, payload=None, fault=None, at=None, size=None):
-    """An image of the house form, or one with a single fault. Sums are right but in a record with fault 'sum'."""
+def image(records, version, payload=None, fault=None, at=None, size=None, second=None, second_at=None):
+    """An image of the house form, or one with a fault, or with two. Sums are right but in a record with fault 'sum'."""
     rows = []
     for i in range(records):
         number, count, own = i, records, version
-        here = i == (0 if at is None else at)
-        if fault == "number" and here:
+        faults = {name for name, place in ((fault, at), (second, second_at))
+                  if i == (place or 0) or name == "zero-version" and place is None}
+        if "number" in faults:
             number = i + 1
-        if fault == "count" and here:
+        if "count" in faults:
             count = records + 1
-        if fault == "version" and here:
+        if "version" in faults:
             own = version ^ 1 << (7 + 29 * i) % 64      # one bit turned: in the low half, then in the high, ..
-        if fault == "zero-version" and (at is None or here):
+        if "zero-version" in faults:
             own = 0
         row = image_record(number, count, own, usual_payload(i, version) if payload is None else payload)
-        if fault == "sum" and here:
+        if "sum" in faults:
             row = row[:124] + le((number_at(row, 124, 4) + 1) & 0xFFFFFFFF, 4)
         rows.append(row)
     whole = b"".join(rows)

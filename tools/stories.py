@@ -7,7 +7,8 @@
     bad FORM                        a bad record
     raw BYTES                       a record of these bytes, filled with zeros to 544
     short N                         a tail: the first N bytes of a Start; no record comes after it
-    end PHASE CONTEXTS              what the replay must end with; the last line, and it may be left out
+    end PHASE CONTEXTS              what the replay must end with; the last line, and it may be left out. In Failed the image's
+                                    first fault comes behind it, size, number, count, version or sum, and its record's number
 
 The line of a call or a raw record may end with what must come of it: => STATUS, => STATUS/EXTENDED, => answer BYTES or
 => bad. This makes no byte of the log; tests/stdout holds the replay to it, so a story says by hand what document 01 asks.
@@ -33,7 +34,8 @@ Send's offset is, if not said, where its piece begins in the image; its length t
 
 An image is: image KIND version N records N, and at I (the record with the fault), size N, payload BYTES. KIND is good,
 bad-size (size bytes; one too few if not said), bad-number, bad-count, bad-version (another than in the other records),
-zero-version (in all records, or at one) or bad-sum. But for bad-sum the sums are right, so one fault stands alone.
+zero-version (in all records, or at one) or bad-sum. But for bad-sum the sums are right, so one fault stands alone; a second
+one is: and KIND, and and-at I (its record, the first if not said), KIND being any of them but bad-size.
 Or it is: image made version N payload BYTES, what is made from a payload of up to 14336 bytes, cut into as many records as it takes.
 
 FORM is kind N, host N, length N or padding [byte B], on what is else a Start by host 1; or tick [byte B], power [byte B].
@@ -51,7 +53,8 @@ BYTE, HALF, WHOLE, DOUBLE = 0xFF, 0xFFFF, 0xFFFFFFFF, 0xFFFFFFFFFFFFFFFF
 
 # The type of a field: "bytes", "range", "sizes", "image", or a number's least and most.
 IMAGE_FIELDS = {"image": "image", "version": (0, DOUBLE), "records": (1, records.IMAGE_MOST),
-                "at": (0, records.IMAGE_MOST - 1), "size": (0, records.AREA), "payload": "bytes", "piece": "range"}
+                "at": (0, records.IMAGE_MOST - 1), "and": "image", "and-at": (0, records.IMAGE_MOST - 1),
+                "size": (0, records.AREA), "payload": "bytes", "piece": "range"}
 EVERY_CALL = {"revision": (0, HALF), "bytes": (0, records.REQUEST_MOST), "times": (1, 100000)}
 CONTEXT = {"context": (0, WHOLE)}
 CALLS = {
@@ -210,7 +213,7 @@ def at_most(data, most, name):
 
 
 def made_image(fields):
-    if "version" not in fields or "payload" not in fields or set(fields) & {"records", "at", "size"}:
+    if "version" not in fields or "payload" not in fields or set(fields) & {"records", "at", "and", "and-at", "size"}:
         raise Wrong("image made wants version and payload alone")
     if fields["version"] == 0:
         raise Wrong("no image is made of version 0")
@@ -223,10 +226,13 @@ def image_of(fields):
         return made_image(fields)
     if "records" not in fields or "version" not in fields:
         raise Wrong("an image wants version and records")
-    fault = IMAGES[fields["image"]]
-    at = fields.get("at")
-    if at is not None and (fault in (None, "size") or at >= fields["records"]):
-        raise Wrong("at is for a damaged record, one of the image's")
+    fault, at = IMAGES[fields["image"]], fields.get("at")
+    second, second_at = IMAGES[fields.get("and", "good")], fields.get("and-at")
+    for name, kind, place in (("at", fault, at), ("and-at", second, second_at)):
+        if place is not None and (kind in (None, "size") or place >= fields["records"]):
+            raise Wrong(f"{name} is for a damaged record, one of the image's")
+    if "and" in fields and (fault is None or second in (None, "size") or (fault, at or 0) == (second, second_at or 0)):
+        raise Wrong("and is for a second fault of a damaged image, and bad-size comes first")
     if "size" in fields and fault != "size":
         raise Wrong("size is for image bad-size")
     if fields["version"] == 0:
@@ -234,14 +240,14 @@ def image_of(fields):
     payload = fields.get("payload")
     if payload is not None:
         at_most(payload, records.IMAGE_PART, "payload")
-    return records.image(fields["records"], fields["version"], payload, fault, at, fields.get("size"))
+    return records.image(fields["records"], fields["version"], payload, fault, at, fields.get("size"), second, second_at)
 
 
 def piece_of(fields):
     """Where in the image the piece begins, and the piece."""
     if "image" not in fields:
         if set(fields) & set(IMAGE_FIELDS):
-            raise Wrong("version, records, at, size, payload and piece are for an image")
+            raise Wrong("version, records, at, and, and-at, size, payload and piece are for an image")
         return 0, fields.get("data", b"")
     if "data" in fields:
         raise Wrong("data or an image, not both")
@@ -387,9 +393,16 @@ def short_tail(words):
 
 
 def end_line(words):
-    if len(words) != 3 or words[1] not in PHASES:
+    if len(words) < 3 or words[1] not in PHASES:
         raise Wrong(f"end wants a phase ({', '.join(PHASES)}) and the number of contexts")
-    return f"end {words[1]} {a_number(words[2], 'contexts', 0, WHOLE)}"
+    line = f"end {words[1]} {a_number(words[2], 'contexts', 0, WHOLE)}"
+    if words[1] == "failed":
+        if len(words) != 5 or words[3] not in records.REASONS:
+            raise Wrong(f"end failed wants the image's first fault ({', '.join(records.REASONS)}) and its record's number")
+        return f"{line} {words[3]} {a_number(words[4], words[3], 0, records.IMAGE_MOST - 1)}"
+    if len(words) != 3:
+        raise Wrong("only end failed takes more than a phase and the number of contexts")
+    return line
 
 
 def tell(text):

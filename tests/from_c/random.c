@@ -79,7 +79,16 @@ static void put(uint8_t *at, int width, uint64_t number)
 
 static bool good_image;
 
-/* A good image of some records at the front of the area, now and then with one byte wrong. */
+/* Wrong: a byte anywhere, which is most often payload, or one of a record's fields. */
+static void spoil_image(uint32_t count)
+{
+    static const uint8_t fields[] = {0, 1, 2, 3, 4, 11, 124, 127};
+    size_t at = percent(50) ? below(128 * count) : 128 * below(count) + fields[below(sizeof fields)];
+
+    mine(&area)[at] ^= (uint8_t)(1 << below(8));
+}
+
+/* A good image of some records at the front of the area, now and then with a byte wrong, or two. */
 static uint32_t make_image(void)
 {
     uint32_t count = percent(30) ? 128 : 1 + (uint32_t)below(128);
@@ -96,8 +105,8 @@ static uint32_t make_image(void)
             sum += get32(at + word);
         put(at + 124, 4, sum);
     }
-    if (percent(25))
-        mine(&area)[below(128 * count)] ^= (uint8_t)(1 << below(8));
+    for (int wrong = percent(25) ? 1 + (int)below(2) : 0; wrong > 0; wrong--)
+        spoil_image(count);
     good_image = true;
     return 128 * count;
 }
@@ -120,6 +129,10 @@ static void possible_record(void)
     device.running = next() >> below(64);
     if (device.phase == STAGED)
         device.staged = percent(10) ? 0 : next() >> below(64);
+    if (device.phase == FAILED) {
+        device.fault = (uint8_t)(SIZE_FAULT + below(SUM_FAULT));
+        device.fault_record = (uint8_t)(percent(30) ? 127 : below(128));
+    }
     device.enable = (uint16_t)below(8);
     device.spare = (uint8_t)below(101);
     device.media = (uint16_t)next();
@@ -134,18 +147,47 @@ static void possible_record(void)
     record_encode(&device, mine(&record));
 }
 
+/* What a record's fault can have wrong. */
+enum bad_fault { NOTHING, NO_REASON, REASON_6, RECORD_128, REASON_ELSEWHERE, RECORD_ELSEWHERE, BAD_FAULTS };
+
+static enum bad_fault bad_fault;
+
+static void spoil_fault(void)
+{
+    uint8_t *at = mine(&record);
+
+    bad_fault = at[0] == FAILED ? NO_REASON + below(3) : REASON_ELSEWHERE + below(2);
+    switch (bad_fault) {
+    case NO_REASON: at[38] = 0, at[39] = percent(50) ? 0 : at[39]; break;
+    case REASON_6: at[38] = 6; break;
+    case RECORD_128: at[39] = 128; break;
+    case REASON_ELSEWHERE: at[38] = (uint8_t)(1 + below(5)); break;
+    default: at[39] = (uint8_t)(1 + below(127)); break;
+    }
+}
+
 /* A record with something wrong, or nearly. */
 static void spoil_record(void)
 {
     uint8_t *at = mine(&record);
 
-    switch (below(5)) {
+    switch (below(6)) {
     case 0: at[below(record.length)] ^= (uint8_t)(1 << below(8)); break;
     case 1: at[below(6)] = (uint8_t)below(12); break;
-    case 2: at[below(38)] = (uint8_t)next(); break;
-    case 3: at[percent(50) ? 33 : percent(50) ? 38 + below(26) : 96 + below(32)] = (uint8_t)next(); break;
+    case 2: at[below(40)] = (uint8_t)next(); break;
+    case 3: at[percent(50) ? 33 : percent(50) ? 40 + below(24) : 96 + below(32)] = (uint8_t)next(); break;
     case 4: put(at + 12, 4, 16384 + below(3)); break;
+    case 5: spoil_fault(); break;
     }
+}
+
+/* A record that the library before this one may have kept: in Failed it has no fault. Now and then something is wrong with it. */
+static void old_record(void)
+{
+    possible_record();
+    mine(&record)[38] = mine(&record)[39] = 0;
+    if (percent(25))
+        spoil_record();
 }
 
 static size_t odd_length(size_t right)
@@ -278,7 +320,7 @@ static void choose_request(uint64_t function)
 
 /* ---- One turn ---- */
 
-enum event { FRESH, CALL, TICK, POWER, SLOTS_FRESH, SLOTS_WRITE, SLOTS_SELECT, SLOTS_READ, EVENTS };
+enum event { FRESH, CALL, TICK, POWER, ADOPT, SLOTS_FRESH, SLOTS_WRITE, SLOTS_SELECT, SLOTS_READ, EVENTS };
 
 struct turn {
     enum event event;
@@ -308,7 +350,7 @@ static enum event choose_event(void)
     unsigned kind = (unsigned)below(100);
 
     if (kind < 92)
-        return kind < 1 ? FRESH : kind < 73 ? CALL : kind < 88 ? TICK : POWER;
+        return kind < 1 ? FRESH : kind < 71 ? CALL : kind < 86 ? TICK : kind < 90 ? POWER : ADOPT;
     return kind < 93 ? SLOTS_FRESH : kind < 96 ? SLOTS_WRITE : kind < 98 ? SLOTS_SELECT : SLOTS_READ;
 }
 
@@ -317,8 +359,11 @@ static struct turn choose(void)
     struct turn turn = {.event = choose_event()};
 
     good_image = false;
+    bad_fault = NOTHING;
     choose_area();
     choose_record();
+    if (turn.event == ADOPT && percent(60))
+        old_record();
     choose_slots();
     if (good_image)
         turn.event = TICK;
@@ -338,6 +383,7 @@ static int32_t by_library(const struct turn *turn)
     case FRESH: return module_fresh(r, record.length);
     case TICK: return module_tick(r, record.length, a, area.length);
     case POWER: return module_power(r, record.length, a, area.length);
+    case ADOPT: return module_adopt(r, record.length);
     case SLOTS_FRESH: return slots_fresh(s, slots.length);
     case SLOTS_WRITE: return slots_write(s, slots.length, r, record.length);
     case SLOTS_SELECT: return slots_select(s, slots.length, turn->slot);
@@ -356,6 +402,7 @@ static int32_t by_independent(const struct turn *turn)
     case FRESH: return independent_fresh(r, record.length);
     case TICK: return independent_tick(r, record.length, a, area.length);
     case POWER: return independent_power(r, record.length, a, area.length);
+    case ADOPT: return independent_adopt(r, record.length);
     case SLOTS_FRESH: return independent_slots_fresh(s, slots.length);
     case SLOTS_WRITE: return independent_slots_write(s, slots.length, r, record.length);
     case SLOTS_SELECT: return independent_slots_select(s, slots.length, turn->slot);
@@ -406,7 +453,7 @@ static const char *fault(const struct turn *turn, const struct buffer **where)
     return untouched(&request, 0) ? NULL : "the request was written";
 }
 
-static const char *const names[] = {"fresh",       "calls",       "ticks",        "power cycles",
+static const char *const names[] = {"fresh",       "calls",       "ticks",        "power cycles", "adoptions",
                                     "slots_fresh", "slots_write", "slots_select", "slots_read"};
 
 static void show(const struct turn *turn, uint64_t number, const char *what, const struct buffer *where)
@@ -431,7 +478,7 @@ static void show(const struct turn *turn, uint64_t number, const char *what, con
 
 /* ---- What came up ---- */
 
-static uint64_t tally[EVENTS][16], stagings, failures;
+static uint64_t tally[EVENTS][16], stagings, failures[SUM_FAULT + 1], refused_faults[BAD_FAULTS], taken_over, left_alone;
 
 /* Answers by kind: 1 to 3 the R numbers, or 1 a refusal of the slots; 4 on the statuses, or the slots' numbers. */
 static void count(const struct turn *turn)
@@ -446,14 +493,23 @@ static void count(const struct turn *turn)
     tally[turn->event][kind & 15]++;
     if (turn->event == TICK && kind == 0 && mine(&record)[0] == VERIFYING) {
         stagings += after[0] == STAGED;
-        failures += after[0] == FAILED;
+        failures[after[0] == FAILED ? after[38] : NO_FAULT]++;
     }
+    if (turn->event == ADOPT && kind == 0) {
+        taken_over += !untouched(&record, 0);
+        left_alone += untouched(&record, 0);
+    }
+    if (turn->event != ADOPT && kind == 3)
+        refused_faults[bad_fault]++;
 }
+
+static const char *const reasons[] = {"none", "size", "number", "count", "version", "sum"};
+static const char *const bad_faults[] = {"nothing", "no reason in Failed", "reason 6", "record 128", "a reason elsewhere", "a record elsewhere"};
 
 static void report(uint64_t turns)
 {
     printf("%llu turns agree, no guard touched\n", (unsigned long long)turns);
-    for (int event = FRESH; event <= POWER; event++) {
+    for (int event = FRESH; event <= ADOPT; event++) {
         uint64_t *row = tally[event];
         printf("%s: R1 %llu, R2 %llu, R3 %llu", names[event], (unsigned long long)row[1], (unsigned long long)row[2],
                (unsigned long long)row[3]);
@@ -468,7 +524,10 @@ static void report(uint64_t turns)
     for (int event = SLOTS_FRESH; event < EVENTS; event++)
         printf("%s: refused %llu, 0 %llu, 1 %llu\n", names[event], (unsigned long long)tally[event][1],
                (unsigned long long)tally[event][4], (unsigned long long)tally[event][5]);
-    printf("verified: %llu staged, %llu failed\n", (unsigned long long)stagings, (unsigned long long)failures);
+    printf("verified: %llu staged; failed by", (unsigned long long)stagings);
+    for (int reason = SIZE_FAULT; reason <= SUM_FAULT; reason++)
+        printf(" %s %llu%s", reasons[reason], (unsigned long long)failures[reason], reason < SUM_FAULT ? "," : "\n");
+    printf("adopted: %llu taken over, %llu left as they were\n", (unsigned long long)taken_over, (unsigned long long)left_alone);
 }
 
 /* So many turns come to each of these ten times or so at least, whatever the seed. A run that never did has compared less than
@@ -484,9 +543,9 @@ static const struct {
     {CALL, 4 + 0, "status 0"},  {CALL, 4 + 1, "status 1"},   {CALL, 4 + 3, "status 3"},   {CALL, 4 + 6, "status 6"},
     {CALL, 4 + 7, "status 7"},  {CALL, 4 + 8, "status 8"},   {CALL, 4 + 10, "status 10"}, {CALL, 4 + 11, "status 11"},
     {TICK, 2, "R2"},            {TICK, 3, "R3"},             {POWER, 2, "R2"},            {POWER, 3, "R3"},
-    {SLOTS_FRESH, 1, "-1"},     {SLOTS_FRESH, 4, "0"},       {SLOTS_WRITE, 1, "-1"},      {SLOTS_WRITE, 4, "0"},
-    {SLOTS_WRITE, 5, "1"},      {SLOTS_SELECT, 1, "-1"},     {SLOTS_SELECT, 4, "0"},      {SLOTS_READ, 1, "-1"},
-    {SLOTS_READ, 4, "0"},
+    {ADOPT, 3, "R3"},           {SLOTS_FRESH, 1, "-1"},      {SLOTS_FRESH, 4, "0"},       {SLOTS_WRITE, 1, "-1"},
+    {SLOTS_WRITE, 4, "0"},      {SLOTS_WRITE, 5, "1"},       {SLOTS_SELECT, 1, "-1"},     {SLOTS_SELECT, 4, "0"},
+    {SLOTS_READ, 1, "-1"},      {SLOTS_READ, 4, "0"},
 };
 
 static bool reached(uint64_t count, const char *who, const char *what)
@@ -503,7 +562,12 @@ static bool reached_all(void)
     for (size_t i = 0; i < sizeof must / sizeof *must; i++)
         all &= reached(tally[must[i].event][must[i].kind], names[must[i].event], must[i].what);
     all &= reached(stagings, names[TICK], "a staging");
-    all &= reached(failures, names[TICK], "a failed verification");
+    for (int reason = SIZE_FAULT; reason <= SUM_FAULT; reason++)
+        all &= reached(failures[reason], "failed by", reasons[reason]);
+    for (int wrong = NO_REASON; wrong < BAD_FAULTS; wrong++)
+        all &= reached(refused_faults[wrong], "R3 for", bad_faults[wrong]);
+    all &= reached(taken_over, names[ADOPT], "a record taken over");
+    all &= reached(left_alone, names[ADOPT], "a record left as it was");
     return all;
 }
 

@@ -43,7 +43,7 @@ int32_t independent_image_read(const uint8_t *image, size_t image_len, uint8_t *
 {
     size_t count = image_len / IMAGE_RECORD;
 
-    if (image_version(image, image_len) == 0)
+    if (image_check(image, image_len).fault != NO_FAULT)
         return READ_NOT_GOOD;
     if (output_len < count * IMAGE_PART)
         return READ_OUTPUT_SHORT;

@@ -55,6 +55,12 @@ bool device_possible(const struct device *device)
         return false;
     if (device->phase != STAGED && device->staged != 0)
         return false;
+    if (device->phase == FAILED && (device->fault < SIZE_FAULT || device->fault > SUM_FAULT))
+        return false;
+    if (device->phase == FAILED && device->fault_record >= IMAGE_RECORDS_MOST)
+        return false;
+    if (device->phase != FAILED && (device->fault != NO_FAULT || device->fault_record != 0))
+        return false;
     if (device->locked && !device->enabled)
         return false;
     if (!device->enabled && !all_zero(device->passphrase, PASSPHRASE_BYTES))
@@ -160,6 +166,8 @@ static uint32_t start(struct device *device, uint8_t *answer)
     device->contexts++;
     device->received = 0;
     device->phase = RECEIVING;
+    device->fault = NO_FAULT;
+    device->fault_record = 0;
     put32(answer + 4, device->contexts);
     return DONE;
 }
@@ -219,21 +227,47 @@ static uint32_t query(const struct device *device, const uint8_t *request, uint8
     return DONE;
 }
 
-uint64_t image_version(const uint8_t *image, size_t length)
+/* Whether this is record `number` of an image of `count` records of this version. Which of the
+ * tests comes first is no matter here. */
+static bool good_record(const uint8_t *record, size_t number, size_t count, uint64_t version)
 {
+    return get32(record + SUM_AT) == word_sum(record) && get16(record + NUMBER_AT) == number
+        && get16(record + COUNT_AT) == count && get64(record + VERSION_AT) == version;
+}
+
+/* The first fault of such a record that is not good, or whose version is 0. */
+static enum fault record_fault(const uint8_t *record, size_t number, size_t count,
+                               uint64_t version)
+{
+    if (get16(record + NUMBER_AT) != number)
+        return NUMBER_FAULT;
+    if (get16(record + COUNT_AT) != count)
+        return COUNT_FAULT;
+    if (get64(record + VERSION_AT) != version || version == 0)
+        return VERSION_FAULT;
+    return SUM_FAULT;
+}
+
+struct image_check image_check(const uint8_t *image, size_t length)
+{
+    struct image_check check = {0, SIZE_FAULT, 0};
     size_t count = length / IMAGE_RECORD;
+    size_t good = 0; /* records */
 
     if (length % IMAGE_RECORD != 0 || count < 1 || count > IMAGE_RECORDS_MOST)
-        return 0;
+        return check;
     uint64_t version = get64(image + VERSION_AT);
-    for (size_t i = 0; i < count; i++) {
-        const uint8_t *record = image + i * IMAGE_RECORD;
-        if (get16(record + NUMBER_AT) != i || get16(record + COUNT_AT) != count
-            || get64(record + VERSION_AT) != version
-            || get32(record + SUM_AT) != word_sum(record))
-            return 0;
+    if (version != 0) /* else record 0 has a fault */
+        while (good < count && good_record(image + good * IMAGE_RECORD, good, count, version))
+            good++;
+    if (good == count) {
+        check.fault = NO_FAULT;
+        check.version = version;
+    } else {
+        check.fault = record_fault(image + good * IMAGE_RECORD, good, count, version);
+        check.record = (uint8_t)good;
     }
-    return version;
+    return check;
 }
 
 int32_t device_tick(struct device *device, const uint8_t *area, size_t area_len)
@@ -246,8 +280,11 @@ int32_t device_tick(struct device *device, const uint8_t *area, size_t area_len)
         return 0;
     device->ticks--;
     if (device->ticks == 0) {
-        device->staged = image_version(area, device->received);
-        device->phase = device->staged != 0 ? STAGED : FAILED;
+        struct image_check check = image_check(area, device->received);
+        device->phase = check.fault == NO_FAULT ? STAGED : FAILED;
+        device->staged = check.version;
+        device->fault = check.fault;
+        device->fault_record = check.record;
     }
     return 0;
 }
@@ -265,6 +302,8 @@ int32_t device_power(struct device *device, const uint8_t *area, size_t area_len
     device->received = 0;
     device->ticks = 0;
     device->staged = 0;
+    device->fault = NO_FAULT;
+    device->fault_record = 0;
     device->frozen = 0;
     device->attempts = 0;
     device->locked = device->enabled;

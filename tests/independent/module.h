@@ -18,6 +18,9 @@ enum {
     PASSPHRASE_BYTES = 32
 };
 
+/* What is wrong with an image: the first fault, from record 0 up, and in a record in this order. */
+enum fault { NO_FAULT, SIZE_FAULT, NUMBER_FAULT, COUNT_FAULT, VERSION_FAULT, SUM_FAULT };
+
 /* The refusals that give no answer bytes. */
 enum { R1 = -1, R2 = -2, R3 = -3 };
 
@@ -33,6 +36,8 @@ struct device {
     uint8_t spare;       /* spare threshold */
     uint8_t phase;       /* an enum phase */
     uint8_t ticks;       /* ticks left */
+    uint8_t fault;       /* in Failed the image's first fault, an enum fault, */
+    uint8_t fault_record; /* and the number of the image record that has it */
     uint8_t enabled;     /* these three: 0 or 1 */
     uint8_t locked;
     uint8_t frozen;
@@ -45,8 +50,15 @@ void device_fresh(struct device *device);
 /* Any other record is refused with R3. */
 bool device_possible(const struct device *device);
 
-/* The version of an image, 0 if the bytes are not a good one. */
-uint64_t image_version(const uint8_t *image, size_t length);
+/* A good image has NO_FAULT and its version; any other the first fault, and the number of the
+ * record that has it, 0 for the size. */
+struct image_check {
+    uint64_t version;
+    uint8_t fault;
+    uint8_t record;
+};
+
+struct image_check image_check(const uint8_t *image, size_t length);
 
 /* The length of the answer written, or R1, R2 or R3 with nothing written.
  * The buffers must not overlap. */

@@ -5,7 +5,9 @@
  *    2 locked        12 received (4)        33 zero
  *    3 frozen        16 running version (8) 34 media threshold (2)
  *    4 attempts                             36 controller threshold (2)
- *    5 ticks left                           38 zeros to 63
+ *    5 ticks left                           38 fault
+ *                                           39 faulty image record
+ *                                           40 zeros to 63
  */
 #include "record.h"
 
@@ -26,13 +28,15 @@ void record_encode(const struct device *device, uint8_t record[RECORD_BYTES])
     record[32] = device->spare;
     put16(record + 34, device->media);
     put16(record + 36, device->controller);
+    record[38] = device->fault;
+    record[39] = device->fault_record;
     memcpy(record + 64, device->passphrase, PASSPHRASE_BYTES);
 }
 
 static bool is_record(const uint8_t *record, size_t record_len)
 {
     return record_len == RECORD_BYTES && record[0] <= FAILED && record[1] <= 1 && record[2] <= 1
-        && record[3] <= 1 && record[33] == 0 && all_zero(record + 38, 26)
+        && record[3] <= 1 && record[33] == 0 && all_zero(record + 40, 24)
         && all_zero(record + 96, 32);
 }
 
@@ -56,6 +60,8 @@ bool record_decode(const uint8_t *record, size_t record_len, struct device *devi
     device->spare = record[32];
     device->media = get16(record + 34);
     device->controller = get16(record + 36);
+    device->fault = record[38];
+    device->fault_record = record[39];
     memcpy(device->passphrase, record + 64, PASSPHRASE_BYTES);
     return true;
 }
@@ -107,4 +113,23 @@ int32_t independent_power(uint8_t *record, size_t record_len, const uint8_t *are
     if (result >= 0)
         record_encode(&device, record);
     return result;
+}
+
+int32_t independent_adopt(uint8_t *record, size_t record_len)
+{
+    struct device device;
+
+    record_decode(record, record_len, &device);
+    if (device_possible(&device))
+        return 0;
+    if (device.phase != FAILED || device.fault != NO_FAULT || device.fault_record != 0)
+        return R3;
+    device.fault = SIZE_FAULT; /* with any fault it is possible, if it was before */
+    if (!device_possible(&device))
+        return R3;
+    device.phase = IDLE;
+    device.received = 0;
+    device.fault = NO_FAULT;
+    record_encode(&device, record);
+    return 0;
 }

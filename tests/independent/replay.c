@@ -43,6 +43,7 @@ struct replay {
 };
 
 static const char *const phase_names[] = {"idle", "receiving", "verifying", "staged", "failed"};
+static const char *const fault_names[] = {"", "size", "number", "count", "version", "sum"};
 
 /* ---- Text: each function writes at `at` and gives back where the next goes ---- */
 
@@ -88,6 +89,14 @@ static void write_field(const char *name, uint64_t number)
     char line[48];
 
     write_line(line, put_number(put_text(line, name), number));
+}
+
+static void write_pair(const char *name, uint64_t one, uint64_t other)
+{
+    char line[64];
+    char *at = put_number(put_text(line, name), one);
+
+    write_line(line, put_number(put_text(at, " "), other));
 }
 
 static void write_bytes(const char *name, const uint8_t *bytes, size_t length)
@@ -237,6 +246,9 @@ static void tail(struct replay *replay)
 
 static void write_state(const struct device *device, const uint8_t *area)
 {
+    char line[24];
+
+    write_line(line, put_text(put_text(line, "phase "), phase_names[device->phase]));
     write_field("contexts ", device->contexts);
     write_field("received ", device->received);
     write_field("ticks ", device->ticks);
@@ -251,23 +263,32 @@ static void write_state(const struct device *device, const uint8_t *area)
     write_field("frozen ", device->frozen);
     write_field("attempts ", device->attempts);
     write_bytes("passphrase ", device->passphrase, PASSPHRASE_BYTES);
+    write_pair("fault ", device->fault, device->fault_record);
     write_bytes("area ", area, AREA_BYTES);
+}
+
+/* The replay's last line. */
+static void write_end(const struct device *device)
+{
+    char line[48];
+    char *at = put_text(put_text(line, "end "), phase_names[device->phase]);
+
+    at = put_number(put_text(at, " "), device->contexts);
+    if (device->phase == FAILED) {
+        at = put_text(put_text(at, " "), fault_names[device->fault]);
+        at = put_number(put_text(at, " "), device->fault_record);
+    }
+    write_line(line, at);
 }
 
 /* What is wrong with a log that was read to its end, or NULL. */
 static const char *end(struct replay *replay)
 {
-    const char *phase = phase_names[replay->device.phase];
-    char line[48];
-    char *at;
-
     switch (replay->text) {
     case REPLAY:
-        at = put_text(put_text(put_text(line, "end "), phase), " ");
-        write_line(line, put_number(at, replay->device.contexts));
+        write_end(&replay->device);
         break;
     case ANSWERS:
-        write_line(line, put_text(put_text(line, "phase "), phase));
         write_state(&replay->device, replay->area);
         break;
     case REPORT:

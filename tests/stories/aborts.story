@@ -26,4 +26,4 @@ finish context 3                => 0
 tick 8
 abort context 3                 => 7/2          # Failed
 query context 3                 => 7/3
-end failed 3
+end failed 3 size 0

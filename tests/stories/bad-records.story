@@ -45,4 +45,4 @@ tick
 query context 1                 => 7/3
 bad host 7 times 3
 short 543
-end failed 1
+end failed 1 size 0

@@ -14,4 +14,4 @@ send context 2 offset 16384                             => 3
 finish context 2                => 0
 tick 8
 query context 2                 => 7/3          # 128 times 128 bytes, and no image
-end failed 2
+end failed 2 number 0

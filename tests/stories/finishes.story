@@ -26,4 +26,4 @@ host 2 finish context 3         => 0            # by another host: the page asks
 tick 8
 finish context 3                => 7/2          # Failed
 finish flag 128 context 3       => 3
-end failed 3
+end failed 3 size 0

@@ -21,4 +21,4 @@ tick 8
 mask                            => answer 05 f0 fb 00
 freeze                          => 0
 mask                            => answer 05 f0 fb 00
-end failed 1
+end failed 1 size 0

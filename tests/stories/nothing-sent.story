@@ -13,4 +13,4 @@ host 1 start                    => 0
 host 1 finish context 3         => 0
 tick 8
 host 1 query context 3          => 7/3
-end failed 3
+end failed 3 size 0

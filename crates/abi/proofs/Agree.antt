@@ -4,7 +4,7 @@ use mathlib.Core.{Path.{_≡_, sym, _∙_}, List.List}
 use Prim.Native.Nat.{ℕ}
 use lib.IntN.{ℤ}
 use Rattle.rules.specs.Module.{Result}
-use Rattle.abi.specs.Abi.{Called, Happened, Made}
+use Rattle.abi.specs.Abi.{Called, Happened, Made, Adopted}
 
 pub calls-agree : (result : Result) (bytes : List ℕ) {m n : ℤ} {bytes₁ bytes₂ area₁ area₂ answer₁ answer₂ : List ℕ}
     → Called result bytes m bytes₁ area₁ answer₁ → Called result bytes n bytes₂ area₂ answer₂
@@ -22,3 +22,6 @@ events-agree result bytes p q = (p .number-is ∙ sym (q .number-is), p .record-
 
 pub fresh-agree : (bytes : List ℕ) {m n : ℤ} {bytes₁ bytes₂ : List ℕ} → Made bytes m bytes₁ → Made bytes n bytes₂ → (m ≡ n) × (bytes₁ ≡ bytes₂)
 fresh-agree bytes p q = (p .number-is ∙ sym (q .number-is), p .record-is ∙ sym (q .record-is))
+
+pub adopted-agree : (bytes : List ℕ) {m n : ℤ} {bytes₁ bytes₂ : List ℕ} → Adopted bytes m bytes₁ → Adopted bytes n bytes₂ → (m ≡ n) × (bytes₁ ≡ bytes₂)
+adopted-agree bytes p q = (p .number-is ∙ sym (q .number-is), p .record-is ∙ sym (q .record-is))

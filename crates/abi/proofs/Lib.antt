@@ -1,3 +1,4 @@
 pub mod Kept
 pub mod Made
+pub mod Adopted
 pub mod Agree

@@ -6,9 +6,10 @@ use Prim.Native.Nat.{ℕ}
 use lib.IntN.{ℤ, pos}
 use lib.ListN.{length}
 use Rattle.rules.specs.Tests.{if_then_else_, _=?_}
-use Rattle.rules.specs.Record.{fresh}
+use Rattle.rules.specs.Record.{fresh, possible}
+use Rattle.rules.specs.Adopt.{possibleBefore, adoptable, adopted}
 use Rattle.rules.specs.Module.{Result}
-use Rattle.device_bytes.specs.Encoding.{encodedSize, encodeOf}
+use Rattle.device_bytes.specs.Encoding.{encodedSize, encodeOf, decodeOf}
 use Rattle.abi_keep.specs.Kept.{refusal, told, kept}
 
 -- a call, with the result that the rules give the record in these bytes
@@ -27,3 +28,14 @@ pub record Happened (result : Result) (bytes : List ℕ) (number : ℤ) (bytes�
 pub record Made (bytes : List ℕ) (number : ℤ) (bytes′ : List ℕ) : Type 0 where
   pub number-is : number ≡ (if length bytes =? encodedSize then pos 0 else refusal 3)
   pub record-is : bytes′ ≡ (if length bytes =? encodedSize then encodeOf fresh else bytes)
+
+-- a record that may have been kept before T-03, taken over: one that is possible stays as it is, byte for byte
+abbrev pub adoptedBytes : (bytes : List ℕ) → List ℕ
+adoptedBytes bytes =
+    if possible (decodeOf bytes) then bytes
+    else if possibleBefore (decodeOf bytes) then encodeOf (adopted (decodeOf bytes))
+    else bytes
+
+pub record Adopted (bytes : List ℕ) (number : ℤ) (bytes′ : List ℕ) : Type 0 where
+  pub number-is : number ≡ (if adoptable (decodeOf bytes) then pos 0 else refusal 3)
+  pub record-is : bytes′ ≡ adoptedBytes bytes

@@ -6,7 +6,7 @@ ghost use Rattle.rules.specs.Module.{callResult, tickResult, powerResult};
 ghost use Rattle.device_bytes.specs.Encoding.{decodeOf};
 ghost use Rattle.device_slots.specs.Slots.{freshNumber, freshSlots, writeNumber, writeSlots, selectNumber, selectSlots, readNumber, readRecord};
 ghost use Rattle.abi_images.specs.Told.{makeNumber, makeOutput, readNumber as readBackNumber, readOutput};
-ghost use Rattle.abi.specs.Abi.{Called, Happened, Made};
+ghost use Rattle.abi.specs.Abi.{Called, Happened, Made, Adopted};
 use device_encode::ENCODED_SIZE;
 
 #[no_mangle]
@@ -51,6 +51,22 @@ pub extern "C" fn module_power(bytes: &mut [u8], area: &[u8]) -> i32
     let d = device_decode::decode(bytes);
     let outcome = module::power(d, area);
     abi_keep::keep(outcome.reply, outcome.device, bytes)
+}
+
+#[no_mangle]
+pub extern "C" fn module_adopt(bytes: &mut [u8]) -> i32
+    ensures { λ r. ⌜ Adopted (now (bytes .entry)) r (now (bytes .exit)) ⌝ }
+{
+    let d = device_decode::decode(bytes);
+    let possible = device_possible::possible(d);
+    if possible {
+        return 0;
+    }
+    let before = device_possible::possible_before(d);
+    if !before {
+        return -3;
+    }
+    abi_keep::write(device_record::idle_again(d), bytes, 0)
 }
 
 #[no_mangle]

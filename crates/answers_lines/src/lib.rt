@@ -5,6 +5,7 @@ ghost use lib.ListN.{length};
 use rules::Device;
 use rules::Phase;
 use rules::Security;
+use rules::Transfer;
 
 // The line of a tail that is no whole record, if there is one.
 fn put_tail(out: &mut [u8], at: usize, number: u64, short: bool) -> usize
@@ -106,10 +107,20 @@ fn put_passphrase(out: &mut [u8], at: usize, security: Security) -> usize
     put_bytes(out, at, b"passphrase ", &security.passphrase)
 }
 
+// The line of the fault, two numbers.
+fn put_fault(out: &mut [u8], at: usize, transfer: Transfer) -> usize
+    requires { ⌜ at + 50 ≤ length (now out) ⌝ }
+    ensures { λ r. ⌜ r ≤ at + 50 ⌝ }
+{
+    let named = text::put(out, at, b"fault ");
+    let spaced = text::put_field(out, named, transfer.reason as u64, b" ");
+    text::put_field(out, spaced, transfer.faulty as u64, b"\n")
+}
+
 // The lines of a device record.
 fn put_device(out: &mut [u8], at: usize, d: Device) -> usize
-    requires { ⌜ at + 660 ≤ length (now out) ⌝ }
-    ensures { λ r. ⌜ r ≤ at + 660 ⌝ }
+    requires { ⌜ at + 700 ≤ length (now out) ⌝ }
+    ensures { λ r. ⌜ r ≤ at + 700 ⌝ }
 {
     let transfer = d.transfer;
     let phase = transfer.phase;
@@ -121,13 +132,14 @@ fn put_device(out: &mut [u8], at: usize, d: Device) -> usize
         b"contexts received ticks running staged enable spare media controller enabled locked frozen attempts ",
         &numbers,
     );
-    put_passphrase(out, at, d.security)
+    let at = put_passphrase(out, at, d.security);
+    put_fault(out, at, transfer)
 }
 
 // What follows the records' lines: the tail's line, and the end state.
 pub fn put_end(out: &mut [u8], number: u64, short: bool, d: Device, area: &[u8]) -> usize
-    requires { ⌜ 2 * length (now area) + 720 ≤ length (now out) ⌝ }
-    ensures { λ r. ⌜ r ≤ 2 * length (now (area .entry)) + 720 ⌝ }
+    requires { ⌜ 2 * length (now area) + 760 ≤ length (now out) ⌝ }
+    ensures { λ r. ⌜ r ≤ 2 * length (now (area .entry)) + 760 ⌝ }
 {
     let at = put_tail(out, 0, number, short);
     let at = put_device(out, at, d);

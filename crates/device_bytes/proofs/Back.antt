@@ -6,7 +6,7 @@ use lib.{ListN.{length, take, drop, length-append}, Seq.{take-at, drop-at}}
 use Rattle.rules.{specs.Tests.{_≤?_, _=?_}, specs.Bytes.{le, ofLe, numberAt, zeros, zeros?}, specs.Record.phaseNumber, specs.declared.Phase.Phase}
 use Rattle.rules.{specs.declared.Phase.the-variants.{Idle, Receiving, Verifying, Staged, Failed}, specs.declared.Device.Device}
 use Rattle.rules.proofs.page.Le.{ofLe-le}
-use Rattle.device_bytes.specs.Encoding.{flag, firstBytes, transferBytes, encodedThresholds, encodeOf, phaseOf, record?, recordOf, decodeOf}
+use Rattle.device_bytes.specs.Encoding.{flag, firstBytes, transferBytes, encodedThresholds, faultBytes, encodeOf, phaseOf, record?, recordOf, decodeOf}
 
 -- what the types say of a record's fields
 pub record InRange (d : Device) : Type 0 where
@@ -15,6 +15,8 @@ pub record InRange (d : Device) : Type 0 where
   pub ticks : d .transfer .ticks < 256 ^ 1
   pub running : d .transfer .running < 256 ^ 8
   pub staged : d .transfer .staged < 256 ^ 8
+  pub reason : d .transfer .reason < 256 ^ 1
+  pub faulty : d .transfer .faulty < 256 ^ 1
   pub enable : d .thresholds .enable < 256 ^ 2
   pub spare : d .thresholds .spare < 256 ^ 1
   pub media : d .thresholds .media < 256 ^ 2
@@ -62,6 +64,8 @@ module _ (d : Device) (h : InRange d) where
       ticks = ofLe-le 1 (d .transfer .ticks) (h .ticks) i;
       running = ofLe-le 8 (d .transfer .running) (h .running) i;
       staged = ofLe-le 8 (d .transfer .staged) (h .staged) i;
+      reason = ofLe-le 1 (d .transfer .reason) (h .reason) i;
+      faulty = ofLe-le 1 (d .transfer .faulty) (h .faulty) i;
     };
     thresholds = record {
       enable = ofLe-le 2 (d .thresholds .enable) (h .enable) i;
@@ -81,14 +85,14 @@ module _ (d : Device) (h : InRange d) where
   pub long : length (encodeOf d) ≡ 128
   unfolding encodeOf
   long =
-      length-append (firstBytes d ++ transferBytes (d .transfer) ++ encodedThresholds (d .thresholds) ++ zeros 26) (pass ++ zeros 32)
+      length-append (firstBytes d ++ transferBytes (d .transfer) ++ encodedThresholds (d .thresholds) ++ faultBytes (d .transfer) ++ zeros 24) (pass ++ zeros 32)
       ∙ ap (λ (k : ℕ). 64 + k) (length-append pass (zeros 32) ∙ ap (λ (k : ℕ). k + 32) (h .passphrase))
 
   tail-zero : zeros? (drop 96 (encodeOf d)) ≡ true
   unfolding encodeOf zeros?
   tail-zero = ap zeros? (drop-at pass (zeros 32) 32 (h .passphrase))
 
-  middle-zero : zeros? (take 26 (drop 38 (encodeOf d))) ≡ true
+  middle-zero : zeros? (take 24 (drop 40 (encodeOf d))) ≡ true
   unfolding encodeOf zeros?
   middle-zero = refl
 

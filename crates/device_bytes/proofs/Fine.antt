@@ -14,7 +14,7 @@ pub record Fine (s : List ℕ) : Type 0 where
   pub locked : numberAt 1 2 s ≤ 1
   pub frozen : numberAt 1 3 s ≤ 1
   pub unused : numberAt 1 33 s ≡ 0
-  pub between : zeros? (take 26 (drop 38 s)) ≡ true
+  pub between : zeros? (take 24 (drop 40 s)) ≡ true
   pub after : zeros? (drop 96 s) ≡ true
 
 pub fine : (s : List ℕ) → record? s ≡ true → Fine s

@@ -1,9 +1,9 @@
 -- Bytes that are no record decode to a record that is not possible, which R3 refuses; so a possible record came from 128 bytes.
 -- Assumes nothing.
-use mathlib.Core.{Path.{_≡_, refl, sym, _∙_}, Bool.{Bool, true, false, false≢true}, List.List}
+use mathlib.Core.{Path.{_≡_, refl, sym, _∙_, ap}, Bool.{Bool, true, false, false≢true}, List.List}
 use Prim.Native.Nat.{ℕ}
 use lib.ListN.{length}
-use Rattle.rules.specs.Record.{possible, possibleTransfer}
+use Rattle.rules.{specs.Record.{possible, possibleTransfer}, specs.Adopt.possibleBefore}
 use Rattle.device_bytes.specs.Encoding.{encodedSize, record?, impossible, decodeOf}
 use Rattle.device_bytes.proofs.Fine.{fine}
 
@@ -21,6 +21,21 @@ from-record s e = go (record? s) refl
     go : (t : Bool) → record? s ≡ t → t ≡ true
     go true p = refl
     go false p = absurd (false≢true (sym (no-record s p) ∙ e))
+
+none-before : possibleBefore impossible ≡ false
+unfolding possibleBefore impossible
+none-before = refl
+
+decoded : (s : List ℕ) → record? s ≡ false → decodeOf s ≡ impossible
+unfolding decodeOf
+decoded s e = rw e
+
+pub before-whole : (s : List ℕ) → possibleBefore (decodeOf s) ≡ true → length s ≡ encodedSize
+before-whole s e = fine s (go (record? s) refl) .long
+  where
+    go : (t : Bool) → record? s ≡ t → record? s ≡ true
+    go true p = p
+    go false p = absurd (false≢true (sym none-before ∙ sym (ap possibleBefore (decoded s p)) ∙ e))
 
 pub possible-whole : (s : List ℕ) → possible (decodeOf s) ≡ true → length s ≡ encodedSize
 possible-whole s e = fine s (from-record s e) .long

@@ -36,10 +36,14 @@ transferBytes t = le 4 (t .contexts) ++ le 4 (t .received) ++ le 8 (t .running) 
 abbrev pub encodedThresholds : Thresholds → List ℕ
 encodedThresholds h = le 1 (h .spare) ++ zeros 1 ++ le 2 (h .media) ++ le 2 (h .controller)
 
--- 38 to 63 zero; 64 to 95 passphrase; 96 to 127 zero
+-- 38 the reason of a fault, 39 the faulty record's number
+abbrev pub faultBytes : Transfer → List ℕ
+faultBytes t = le 1 (t .reason) ++ le 1 (t .faulty)
+
+-- 40 to 63 zero; 64 to 95 passphrase; 96 to 127 zero
 unfoldable pub encodeOf : Device → List ℕ
 encodeOf d =
-    firstBytes d ++ transferBytes (d .transfer) ++ encodedThresholds (d .thresholds) ++ zeros 26
+    firstBytes d ++ transferBytes (d .transfer) ++ encodedThresholds (d .thresholds) ++ faultBytes (d .transfer) ++ zeros 24
     ++ (d .security .passphrase ++ zeros 32)
 
 -- these bytes are a record's: 128 of them, a phase that there is, each flag 0 or 1, zeros where nothing stands
@@ -51,7 +55,7 @@ record? s =
     && numberAt 1 2 s ≤? 1
     && numberAt 1 3 s ≤? 1
     && numberAt 1 33 s =? 0
-    && zeros? (take 26 (drop 38 s))
+    && zeros? (take 24 (drop 40 s))
     && zeros? (drop 96 s)
 
 abbrev pub phaseOf : ℕ → Phase
@@ -73,6 +77,8 @@ recordOf s =
         ticks = numberAt 1 5 s;
         running = numberAt 8 16 s;
         staged = numberAt 8 24 s;
+        reason = numberAt 1 38 s;
+        faulty = numberAt 1 39 s;
       };
       thresholds = record {
         enable = numberAt 2 6 s;

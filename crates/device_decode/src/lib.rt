@@ -10,13 +10,12 @@ use rules::Security;
 use rules::Thresholds;
 use rules::Transfer;
 
-// Bytes 38 to 63 are zero, by four numbers and not byte by byte.
+// Bytes 40 to 63 are zero, by three numbers and not byte by byte.
 fn zero_between(s: &[u8]) -> bool
     requires { ⌜ length (now s) ≡ encodedSize ⌝ }
-    ensures { λ r. ⌜ r ≡ zeros? (take 26 (drop 38 (now (s .entry)))) ⌝ }
+    ensures { λ r. ⌜ r ≡ zeros? (take 24 (drop 40 (now (s .entry)))) ⌝ }
 {
-    (bytes_numbers::half(s, 38) == 0)
-        & (bytes_numbers::long(s, 40) == 0)
+    (bytes_numbers::long(s, 40) == 0)
         & (bytes_numbers::long(s, 48) == 0)
         & (bytes_numbers::long(s, 56) == 0)
 }
@@ -82,6 +81,8 @@ fn to_record(s: &[u8]) -> Device
         ticks: bytes_numbers::byte(s, 5),
         running: bytes_numbers::long(s, 16),
         staged: bytes_numbers::long(s, 24),
+        reason: bytes_numbers::byte(s, 38),
+        faulty: bytes_numbers::byte(s, 39),
     };
     let thresholds = Thresholds {
         enable: bytes_numbers::half(s, 6),

@@ -4,7 +4,7 @@ ghost use mathlib.Core.Path.{_≡_};
 ghost use mathlib.Core.List.{_++_};
 ghost use lib.ListN.{length};
 ghost use Rattle.rules.specs.Bytes.{splice, zeros};
-ghost use Rattle.device_bytes.specs.Encoding.{encodedSize, stateBytes, firstBytes, transferBytes, encodedThresholds, encodeOf};
+ghost use Rattle.device_bytes.specs.Encoding.{encodedSize, stateBytes, firstBytes, transferBytes, encodedThresholds, faultBytes, encodeOf};
 use rules::Device;
 use rules::Security;
 use rules::Thresholds;
@@ -55,6 +55,14 @@ fn put_thresholds(h: Thresholds, out: &mut [u8])
     bytes_base::put_at(out, 36, 2, h.controller as u64);
 }
 
+fn put_fault(t: Transfer, out: &mut [u8])
+    requires { ⌜ length (now out) ≡ encodedSize ⌝ }
+    ensures { λ r. ⌜ now (out .exit) ≡ splice 38 (faultBytes t) (now (out .entry)) ⌝ }
+{
+    bytes_base::put_at(out, 38, 1, t.reason as u64);
+    bytes_base::put_at(out, 39, 1, t.faulty as u64);
+}
+
 fn put_passphrase(s: Security, out: &mut [u8])
     requires { ⌜ length (now out) ≡ encodedSize ⌝ }
     ensures { λ r. ⌜ now (out .exit) ≡ splice 64 (s .passphrase ++ zeros 32) (now (out .entry)) ⌝ }
@@ -71,7 +79,8 @@ pub fn put(d: Device, out: &mut [u8])
     put_first(d, out);
     put_transfer(d.transfer, out);
     put_thresholds(d.thresholds, out);
-    bytes_base::put_at(out, 38, 26, 0);
+    put_fault(d.transfer, out);
+    bytes_base::put_at(out, 40, 24, 0);
     put_passphrase(d.security, out);
 }
 

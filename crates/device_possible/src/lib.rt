@@ -2,14 +2,15 @@
 ghost use mathlib.Core.Path.{_≡_};
 ghost use lib.ListN.{length};
 ghost use Rattle.rules.specs.Bytes.{zeros?};
-ghost use Rattle.rules.specs.Record.{possible, possibleTransfer, possibleSecurity, possibleThresholds};
+ghost use Rattle.rules.specs.Adopt.{possibleBefore};
+ghost use Rattle.rules.specs.Record.{possible, possibleNumbers, possibleFault, possibleTransfer, possibleSecurity, possibleThresholds};
 use rules::Device;
 use rules::Security;
 use rules::Thresholds;
 use rules::Transfer;
 
-fn possible_transfer(t: Transfer) -> bool
-    ensures { λ r. ⌜ r ≡ possibleTransfer t ⌝ }
+fn possible_numbers(t: Transfer) -> bool
+    ensures { λ r. ⌜ r ≡ possibleNumbers t ⌝ }
 {
     let p = t.phase;
     let n = device_phase::phase_number(p);
@@ -22,6 +23,21 @@ fn possible_transfer(t: Transfer) -> bool
         & (!verifying | ((1 <= t.ticks) & (t.ticks <= 8)))
         & (verifying | (t.ticks == 0))
         & (staged | (t.staged == 0))
+}
+
+fn possible_fault(t: Transfer) -> bool
+    ensures { λ r. ⌜ r ≡ possibleFault t ⌝ }
+{
+    let p = t.phase;
+    let failed = device_phase::phase_number(p) == 4;
+    (!failed | ((1 <= t.reason) & (t.reason <= 5) & (t.faulty <= 127)))
+        & (failed | ((t.reason == 0) & (t.faulty == 0)))
+}
+
+fn possible_transfer(t: Transfer) -> bool
+    ensures { λ r. ⌜ r ≡ possibleTransfer t ⌝ }
+{
+    possible_numbers(t) & possible_fault(t)
 }
 
 // 32 bytes are zero, by four numbers and not byte by byte: a record that is judged stays whole words.
@@ -52,6 +68,17 @@ pub fn possible(d: Device) -> bool
     ensures { λ r. ⌜ r ≡ possible d ⌝ }
 {
     possible_transfer(d.transfer)
+        & possible_security(d.security)
+        & possible_thresholds(d.thresholds)
+}
+
+// Whether a record was possible before faults were kept.
+pub fn possible_before(d: Device) -> bool
+    ensures { λ r. ⌜ r ≡ possibleBefore d ⌝ }
+{
+    let t = d.transfer;
+    let no_fault = (t.reason == 0) & (t.faulty == 0);
+    (possible_numbers(t) & no_fault)
         & possible_security(d.security)
         & possible_thresholds(d.thresholds)
 }

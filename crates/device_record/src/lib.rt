@@ -1,7 +1,8 @@
-// The device record in code: fresh, the checks of R2 and R3, and one wrong attempt more.
+// The device record in code: fresh, the checks of R2 and R3, one wrong attempt more, and a failed record from before its faults were kept, taken over.
 ghost use mathlib.Core.Path.{_≡_};
 ghost use Prim.Native.Nat.{_≤_};
 ghost use Rattle.rules.specs.Record.{fresh, moduleOf};
+ghost use Rattle.rules.specs.Adopt.{idleAgain};
 ghost use Rattle.rules.specs.Refusals.{verdict, eventChecks, recordLeft};
 use rules::AREA_SIZE;
 use rules::Device;
@@ -23,6 +24,8 @@ pub fn fresh() -> Device
             ticks: 0,
             running: 1,
             staged: 0,
+            reason: 0,
+            faulty: 0,
         },
         thresholds: Thresholds {
             enable: 0,
@@ -69,4 +72,15 @@ pub fn left(status: u16, d: Device) -> Device
         return Device { security, ..d };
     }
     d
+}
+
+pub fn idle_again(d: Device) -> Device
+    ensures { λ r. ⌜ r ≡ idleAgain d ⌝ }
+{
+    let transfer = Transfer {
+        phase: Phase::Idle,
+        received: 0,
+        ..d.transfer
+    };
+    Device { transfer, ..d }
 }

@@ -1,58 +1,145 @@
--- Laws of the loop over the records, and of what the tests together say.
+-- Laws of the walk over the records, and of what the tests together say.
 -- Assumes nothing.
-use mathlib.Core.{Path.{_≡_, sym, _∙_, ap}, Bool.{Bool, true, false, not, _&&_}, List.List}
-use Prim.Native.Nat.{ℕ, suc, _+_, _-_, _*_, _/_, _≤_, _<_}
-use native.Mathlib.{Nat.add-sub-cancel-left, Omega.arith}
+use mathlib.Core.{Path.{_≡_, refl, sym, _∙_, ap, subst}, Bool.{Bool, true, false}, List.List}
+use Prim.Native.Nat.{ℕ, zero, suc, _+_, _-_, _*_, _/_, _≤_, _<_}
+use native.Mathlib.{Nat.{add-sub-cancel-left, sub-zero}, Omega.arith}
 use lib.{ListN.{length, take, drop}, Seq.drop-drop}
-use Rattle.rules.{specs.Image.{goodRecord, goodRecords, goodSize, versionOf, goodImage, imageOf}, specs.Tests.{_=?_, if_then_else_}}
-use Rattle.rules.specs.declared.Image.the-variants.{Good, Bad}
+use Rattle.rules.{specs.Image.{goodRecord, goodSize, versionOf}, specs.Fault.{Fault, none, _of-record_, recordFault, _or-else_, recordsFault, firstFault, judged, imageOf, imageRecord}}
+use Rattle.rules.{specs.Tests.{_=?_, if_then_else_}, specs.declared.Reason.Reason, specs.declared.Reason.the-variants.Size, specs.declared.Image.the-variants.{Good, Bad}}
+use Rattle.rules.proofs.page.Faults.{good-clean, bad-unclean, zero-unclean}
+use Rattle.image_check.specs.Walk.{firstBad}
 
--- the records from number i on are record i and those from the next on
-records-from : (n version i : ℕ) (bytes : List ℕ) → i < n
-    → goodRecords (n - i) i n version (drop (i * 128) bytes)
-    ≡ (goodRecord i n version (take 128 (drop (i * 128) bytes))
-    && goodRecords (n - (i + 1)) (i + 1) n version (drop ((i + 1) * 128) bytes))
-unfolding goodRecords
-records-from n version i bytes h =
-    let left : n - i ≡ suc (n - (i + 1)) = omega arith in
+-- the records after number i begin where it ends
+next : (i : ℕ) (bytes : List ℕ) → drop 128 (drop (i * 128) bytes) ≡ drop ((i + 1) * 128) bytes
+next i bytes =
     let place : i * 128 + 128 ≡ (i + 1) * 128 = omega arith in
-    let next : drop 128 (drop (i * 128) bytes) ≡ drop ((i + 1) * 128) bytes =
-    drop-drop 128 (i * 128) bytes ∙ ap (λ (at : ℕ). drop at bytes) place in
-    rw (left, next)
+    drop-drop 128 (i * 128) bytes ∙ ap (λ (at : ℕ). drop at bytes) place
 
--- the loop over the records, at record i: what is left tests as the whole
-module _ (n version i : ℕ) (bytes : List ℕ)
-    (whole : goodRecords (n - i) i n version (drop (i * 128) bytes) ≡ goodRecords n 0 n version bytes)
-  where
-    -- record i, as the part of the slice that the loop hands on
-    abbrev part : List ℕ
-    part = take (i * 128 + 128 - i * 128) (drop (i * 128) bytes)
+-- one record of the walk, and of the fault that is looked for
+bad-on : (records i n version : ℕ) (bytes : List ℕ) → firstBad (suc records) i n version (drop (i * 128) bytes)
+    ≡ (if goodRecord i n version (imageRecord i bytes) then firstBad records (i + 1) n version (drop ((i + 1) * 128) bytes) else i)
+unfolding firstBad
+bad-on records i n version bytes = rw (next i bytes)
 
-    part-is-record : take 128 (drop (i * 128) bytes) ≡ part
-    part-is-record = ap (λ (k : ℕ). take k (drop (i * 128) bytes)) (sym (add-sub-cancel-left (i * 128) 128))
+fault-on : (records i n version : ℕ) (bytes : List ℕ) → recordsFault (suc records) i n version (drop (i * 128) bytes)
+    ≡ (recordFault i n version (imageRecord i bytes) or-else recordsFault records (i + 1) n version (drop ((i + 1) * 128) bytes))
+unfolding recordsFault
+fault-on records i n version bytes = rw (next i bytes)
 
-    pub good-record-goes-on : i < n → goodRecord i n version part ≡ true
-        → goodRecords (n - (i + 1)) (i + 1) n version (drop ((i + 1) * 128) bytes) ≡ goodRecords n 0 n version bytes
-    good-record-goes-on h good = sym (records-from n version i bytes h ∙ rw (part-is-record, good)) ∙ whole
+-- record i, as the part of the slice that is handed on
+part-is-record : (i : ℕ) (bytes : List ℕ) → imageRecord i bytes ≡ take (i * 128 + 128 - i * 128) (drop (i * 128) bytes)
+part-is-record i bytes = ap (λ (k : ℕ). take k (drop (i * 128) bytes)) (sym (add-sub-cancel-left (i * 128) 128))
 
-    pub bad-record-decides : i < n → goodRecord i n version part ≡ false → false ≡ goodRecords n 0 n version bytes
-    bad-record-decides h bad = sym (records-from n version i bytes h ∙ rw (part-is-record, bad)) ∙ whole
+-- that part has the record's fault
+pub part-has-fault : (i n version : ℕ) (bytes : List ℕ) → (recordFault i n version (imageRecord i bytes) ≡ none → ⊥)
+    → recordFault i n version (take (i * 128 + 128 - i * 128) (drop (i * 128) bytes)) ≡ none → ⊥
+part-has-fault i n version bytes h = rw (← part-is-record i bytes) h
 
-    pub no-record-left : n ≤ i → true ≡ goodRecords n 0 n version bytes
-    unfolding goodRecords
-    no-record-left h =
-        let none : n - i ≡ 0 = omega arith in
-        rw none at whole
+pub part-decides : (i n version : ℕ) (bytes : List ℕ) {reason : Reason} → recordFault i n version (take (i * 128 + 128 - i * 128) (drop (i * 128) bytes)) ≡ (reason of-record i)
+    → Bad reason i ≡ judged (recordFault i n version (imageRecord i bytes)) version
+part-decides i n version bytes fault = rw (part-is-record i bytes, fault)
 
--- bytes of another size are bad
-pub bad-size : (bytes : List ℕ) → goodSize bytes ≡ false → Bad ≡ imageOf bytes
-unfolding goodImage imageOf
-bad-size bytes size = simp size
+-- the loop, at record i: the first bad one of those left is that of the whole
+module _ (n version i : ℕ) (bytes : List ℕ) (whole : firstBad (n - i) i n version (drop (i * 128) bytes) ≡ firstBad n 0 n version bytes) where
+  here : i < n → {good : Bool} → goodRecord i n version (take (i * 128 + 128 - i * 128) (drop (i * 128) bytes)) ≡ good
+      → (if good then firstBad (n - (i + 1)) (i + 1) n version (drop ((i + 1) * 128) bytes) else i) ≡ firstBad n 0 n version bytes
+  here h e =
+      let left : n - i ≡ suc (n - (i + 1)) = omega arith in
+      let one = bad-on (n - (i + 1)) i n version bytes in
+      rw (← e, ← part-is-record i bytes, ← one, ← left) whole
 
--- bytes of a good size are what their version and their records say
-pub by-version-and-records : (bytes : List ℕ) (version : ℕ) {zero? good : Bool}
-    → goodSize bytes ≡ true → version ≡ versionOf bytes → (version =? 0) ≡ zero?
-    → goodRecords (length bytes / 128) 0 (length bytes / 128) version bytes ≡ good
-    → (if not zero? && good then Good version else Bad) ≡ imageOf bytes
-unfolding goodImage imageOf
-by-version-and-records bytes version size first is-zero records = simp (size, ← first, is-zero, records)
+  pub good-record-goes-on : i < n → goodRecord i n version (take (i * 128 + 128 - i * 128) (drop (i * 128) bytes)) ≡ true
+      → firstBad (n - (i + 1)) (i + 1) n version (drop ((i + 1) * 128) bytes) ≡ firstBad n 0 n version bytes
+  good-record-goes-on h good = here h good
+
+  pub bad-record-decides : i < n → goodRecord i n version (take (i * 128 + 128 - i * 128) (drop (i * 128) bytes)) ≡ false → i ≡ firstBad n 0 n version bytes
+  bad-record-decides h bad = here h bad
+
+  pub no-record-left : i ≡ n → i ≡ firstBad n 0 n version bytes
+  unfolding firstBad
+  no-record-left h =
+      let none-left : n - i ≡ 0 = omega arith in
+      rw none-left at whole
+
+-- where the walk of an image whose version is not zero stops: past its last record, and then there is no fault; or at one whose fault is the first
+data Stopped (n version k : ℕ) (bytes : List ℕ) (fault : Fault) : Type 0 where
+  past : n ≤ k → fault ≡ none → Stopped n version k bytes fault
+  at-record : k < n → (recordFault k n version (imageRecord k bytes) ≡ none → ⊥) → fault ≡ recordFault k n version (imageRecord k bytes) → Stopped n version k bytes fault
+
+stopped-as : {n version k l : ℕ} {bytes : List ℕ} {f g : Fault} → k ≡ l → f ≡ g → Stopped n version k bytes f → Stopped n version l bytes g
+stopped-as {n} {version} {k} {l} {bytes} {f} {g} e q s =
+    subst (λ (x : ℕ). Stopped n version x bytes g) e (subst (λ (x : Fault). Stopped n version k bytes x) q s)
+
+or-first : (f g : Fault) → (f ≡ none → ⊥) → (f or-else g) ≡ f
+or-first none g h = absurd (h refl)
+or-first (reason of-record i) g h = refl
+
+module _ (n version : ℕ) (bytes : List ℕ) (image : version ≡ versionOf bytes) where
+  stops : (version =? 0) ≡ false → (records i : ℕ) → i + records ≡ n
+      → Stopped n version (firstBad records i n version (drop (i * 128) bytes)) bytes (recordsFault records i n version (drop (i * 128) bytes))
+  unfolding firstBad recordsFault
+  stops nonzero zero i h = past (omega (arith, h)) refl
+  stops nonzero (suc records) i h = go (goodRecord i n version (imageRecord i bytes)) refl (stops nonzero records (i + 1) (omega (arith, h)))
+    where
+      is-nonzero : (versionOf bytes =? 0) ≡ false
+      is-nonzero = rw (← image) nonzero
+
+      go : (good : Bool) → goodRecord i n version (imageRecord i bytes) ≡ good
+          → Stopped n version (firstBad records (i + 1) n version (drop ((i + 1) * 128) bytes)) bytes (recordsFault records (i + 1) n version (drop ((i + 1) * 128) bytes))
+          → Stopped n version (firstBad (suc records) i n version (drop (i * 128) bytes)) bytes (recordsFault (suc records) i n version (drop (i * 128) bytes))
+      go true e later =
+          let clean : recordFault i n version (imageRecord i bytes) ≡ none = rw image (good-clean i n bytes is-nonzero (rw (← image) e)) in
+          stopped-as (sym (bad-on records i n version bytes ∙ rw e)) (sym (fault-on records i n version bytes ∙ rw clean)) later
+      go false e later =
+          let faulty : recordFault i n version (imageRecord i bytes) ≡ none → ⊥ = rw image (bad-unclean i n bytes is-nonzero (rw (← image) e)) in
+          stopped-as (sym (bad-on records i n version bytes ∙ rw e)) (sym (fault-on records i n version bytes ∙ or-first _ _ faulty))
+          (at-record (omega (arith, h)) faulty refl)
+
+-- bytes of another size are bad for that
+pub bad-size : (bytes : List ℕ) → goodSize bytes ≡ false → Bad Size 0 ≡ imageOf bytes
+unfolding firstFault imageOf
+bad-size bytes size = rw size
+
+-- bytes of a good size are what their records are
+module _ (bytes : List ℕ) {version : ℕ} (size : goodSize bytes ≡ true) (first : version ≡ versionOf bytes) where
+  abbrev n : ℕ
+  n = length bytes / 128
+
+  by-fault : {fault : Fault} → recordsFault n 0 n version bytes ≡ fault → judged fault version ≡ imageOf bytes
+  unfolding firstFault imageOf
+  by-fault e = rw (size, ← first, e)
+
+  -- where the version is zero, the first record has a fault, and it decides
+  pub zero-has-fault : (version =? 0) ≡ true → recordFault 0 n version (imageRecord 0 bytes) ≡ none → ⊥
+  zero-has-fault zero? = rw first (zero-unclean n bytes (rw (← first) zero?))
+
+  pub zero-decides : 1 ≤ n → (version =? 0) ≡ true → judged (recordFault 0 n version (imageRecord 0 bytes)) version ≡ imageOf bytes
+  zero-decides some zero? =
+      let count : n ≡ suc (n - 1) = omega (arith, some) in
+      by-fault (ap (λ (k : ℕ). recordsFault k 0 n version bytes) count ∙ fault-on (n - 1) 0 n version bytes ∙ or-first _ _ (zero-has-fault zero?))
+
+  -- where it is not, the walk decides
+  module _ (nonzero : (version =? 0) ≡ false) {k : ℕ} (walked : k ≡ firstBad n 0 n version bytes) where
+    stop : Stopped n version k bytes (recordsFault n 0 n version bytes)
+    stop = stopped-as (sym walked) refl (stops n version bytes first nonzero n 0 (omega arith))
+
+    pub walk-has-fault : k < n → recordFault k n version (imageRecord k bytes) ≡ none → ⊥
+    walk-has-fault l = go stop
+      where
+        go : Stopped n version k bytes (recordsFault n 0 n version bytes) → recordFault k n version (imageRecord k bytes) ≡ none → ⊥
+        go (past h e) = absurd (omega (arith, h, l))
+        go (at-record h f e) = f
+
+    pub walk-decides : k < n → judged (recordFault k n version (imageRecord k bytes)) version ≡ imageOf bytes
+    walk-decides l = by-fault (go stop)
+      where
+        go : Stopped n version k bytes (recordsFault n 0 n version bytes) → recordsFault n 0 n version bytes ≡ recordFault k n version (imageRecord k bytes)
+        go (past h e) = absurd (omega (arith, h, l))
+        go (at-record h f e) = e
+
+    pub all-good : n ≤ k → Good version ≡ imageOf bytes
+    all-good l = by-fault (go stop)
+      where
+        go : Stopped n version k bytes (recordsFault n 0 n version bytes) → recordsFault n 0 n version bytes ≡ none
+        go (past h e) = e
+        go (at-record h f e) = absurd (omega (arith, h, l))

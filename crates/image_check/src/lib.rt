@@ -1,16 +1,20 @@
-// Document 01, "Good image": whether the received bytes are one, records of 128 bytes with no header. One record is crates/image_record.
+// Document 01, "Good image": whether the received bytes are one, records of 128 bytes with no header; and where they are not, document 02, T-03: their first fault.
+// One record is crates/image_record. One walk decides: it ends at the first bad record, and only that one is looked at test by test.
 ghost use mathlib.Core.Path.{_≡_};
-ghost use Prim.Native.Nat.{_*_};
+ghost use Prim.Native.Nat.{_*_, _≤_, _<_};
 ghost use lib.ListN.{length};
-ghost use Rattle.rules.specs.Image.{goodRecords, imageOf};
+ghost use Rattle.rules.specs.Fault.{none, recordFault, judged, imageOf, imageRecord};
+ghost use Rattle.image_check.specs.Walk.{firstBad};
 use rules::IMAGE_RECORD;
+use rules::Image;
 use rules::MOST_RECORDS;
+use rules::Reason;
 use rules::VERSION_PLACE;
 
-// All n records are good. The first bad one decides.
-fn good_records(n: u16, version: u64, bytes: &[u8]) -> bool
+// The number of the first bad record; n where all are good.
+fn first_bad(n: u16, version: u64, bytes: &[u8]) -> u16
     requires { ⌜ length (now bytes) ≡ n * 128 ⌝ }
-    ensures { λ r. ⌜ r ≡ goodRecords n 0 n version (now (bytes .entry)) ⌝ }
+    ensures { λ r. ⌜ r ≡ firstBad n 0 n version (now (bytes .entry)) ⌝ }
 {
     let mut i: u16 = 0;
     while i < n {
@@ -18,31 +22,49 @@ fn good_records(n: u16, version: u64, bytes: &[u8]) -> bool
         let end = at + IMAGE_RECORD;
         let good = image_record::good_record(i, n, version, &bytes[at..end]);
         if !good {
-            return false;
+            return i;
         }
         i += 1;
     }
-    true
+    i
 }
 
-// What the received bytes are: a good image with its version, or bad.
-pub fn image(bytes: &[u8]) -> rules::Image
+// What an image is by record i, which has a fault.
+fn faulty(i: u16, n: u16, version: u64, bytes: &[u8]) -> Image
+    requires { ⌜ (length (now bytes) ≡ n * 128) × (i < n) × (n ≤ 128) × (recordFault i n version (imageRecord i (now bytes)) ≡ none → ⊥) ⌝ }
+    ensures { λ r. ⌜ r ≡ judged (recordFault i n version (imageRecord i (now (bytes .entry)))) version ⌝ }
+{
+    let at = (i as usize) * IMAGE_RECORD;
+    let end = at + IMAGE_RECORD;
+    let reason = image_record::fault(i, n, version, &bytes[at..end]);
+    Image::Bad {
+        reason,
+        number: i as u8,
+    }
+}
+
+// What the received bytes are: a good image with its version, or a bad one with its first fault.
+pub fn image(bytes: &[u8]) -> Image
     ensures { λ r. ⌜ r ≡ imageOf (now (bytes .entry)) ⌝ }
 {
     let received = bytes.len();
     let n = received / IMAGE_RECORD;
     let sized = (received == n * IMAGE_RECORD) & (1 <= n) & (n <= MOST_RECORDS);
     if !sized {
-        return rules::Image::Bad;
+        return Image::Bad {
+            reason: Reason::Size,
+            number: 0,
+        };
     }
+    let n = n as u16;
     let version = bytes_numbers::long(bytes, VERSION_PLACE);
     let zero = version == 0;
     if zero {
-        return rules::Image::Bad;
+        return faulty(0, n, version, bytes);
     }
-    let good = good_records(n as u16, version, bytes);
-    if !good {
-        return rules::Image::Bad;
+    let i = first_bad(n, version, bytes);
+    if i < n {
+        return faulty(i, n, version, bytes);
     }
-    rules::Image::Good { version }
+    Image::Good { version }
 }

@@ -5,8 +5,8 @@ use Prim.Native.Nat.{ℕ, _≤_, _<_, _*_, _/_}
 use native.Mathlib.Omega.{arith}
 use lib.ListN.{length}
 use borrow.Author.Tests.{lt-ltb, le-ltb, ltb-false}
-use Rattle.rules.{specs.Tests.{if_then_else_, _<?_, _=?_}, specs.Image.{mostRecords, imageOf}, specs.Made.{partsOf, makingOf, readingIf, readingOf}}
-use Rattle.rules.{specs.declared.Image.Image, specs.declared.Image.the-variants.{Good, Bad}, specs.declared.Making.Making, specs.declared.ReadingBack.ReadingBack}
+use Rattle.rules.{specs.Tests.{if_then_else_, _<?_, _=?_}, specs.Image.mostRecords, specs.Fault.imageOf, specs.Made.{partsOf, makingOf, readingIf, readingOf}}
+use Rattle.rules.{specs.declared.Image.Image, specs.declared.Image.the-variants.{Good, Bad}, specs.declared.Reason.Reason, specs.declared.Making.Making, specs.declared.ReadingBack.ReadingBack}
 use Rattle.rules.specs.declared.Making.the-variants.{Made, VersionZero, PayloadOver128Records, OutputTooShort}
 use Rattle.rules.specs.declared.ReadingBack.the-variants.{Read, NotGoodImage, OutputTooShort as ReadTooShort}
 use Rattle.rules.proofs.page.Images.{known, over-128-records}
@@ -34,7 +34,7 @@ module _ (version : ℕ) (payload output : List ℕ) where
       made room = rw (some, few, ← count, le-ltb (length output) (n * 128) room) refl
 
 module _ (image output : List ℕ) where
-  pub image-refused : imageOf image ≡ Bad → NotGoodImage ≡ readingOf image output
+  pub image-refused : {reason : Reason} {number : ℕ} → imageOf image ≡ Bad reason number → NotGoodImage ≡ readingOf image output
   unfolding readingOf
   image-refused bad = rw bad refl
 
@@ -90,4 +90,4 @@ read-inside image output e = subst (λ (bytes : ℕ). Inside bytes (length outpu
 
     go : (found : Image) → imageOf image ≡ found → Inside (readBytes (readingIf found image output)) (length output)
     go (Good version) good = sized (length output <? length image / 128 * 112) refl (known image version good .sized .few)
-    go Bad bad = record { few = omega arith; fits = omega arith }
+    go (Bad reason number) bad = record { few = omega arith; fits = omega arith }

@@ -140,7 +140,10 @@ pub fn read_back(image: &[u8], output: &mut [u8]) -> ReadingBack
 {
     let found = image_check::image(image);
     match found {
-        Image::Bad => ReadingBack::NotGoodImage,
+        Image::Bad {
+            reason: _,
+            number: _,
+        } => ReadingBack::NotGoodImage,
         Image::Good { version: _ } => {
             let n = image.len() / IMAGE_RECORD;
             let length = n * PART;

@@ -1,10 +1,11 @@
--- Laws of a record's sum, and of its fields' test.
+-- Laws of a record's sum, of its fields' test, and of its first fault.
 -- Assumes nothing.
-use mathlib.Core.{Path.{_≡_, _∙_, ap}, Bool.{Bool, true, false, _&&_}, List.List}
+use mathlib.Core.{Path.{_≡_, refl, _∙_, ap}, Bool.{Bool, true, false, not, _&&_, _||_}, List.List}
 use Prim.Native.Nat.{ℕ, zero, suc, _+_, _*_, _%_, _^_}
 use native.Mathlib.{Nat.mod-add-mod, Numerals.add-one, Omega.arith}
 use lib.{ListN.{take, drop}, Seq.drop-drop}
-use Rattle.rules.{specs.Bytes.{ofLe, numberAt}, specs.Image.{sumOfWords, goodRecord}, specs.Tests._=?_}
+use Rattle.rules.{specs.Bytes.{ofLe, numberAt}, specs.Image.{sumOfWords, goodRecord}, specs.Tests.{_=?_, if_then_else_}}
+use Rattle.rules.{specs.Fault.{none, _of-record_, sumTest, recordFault}, specs.declared.Reason.the-variants.{Number, Count, Version, Sum}}
 
 -- the sum of one word more is the sum so far and that word
 sum-of-one-more : (words : ℕ) (bytes : List ℕ)
@@ -38,3 +39,35 @@ module _ (i n version : ℕ) (bytes : List ℕ) {number count own : ℕ}
         → (word =? sum) ≡ goodRecord i n version bytes
     unfolding goodRecord
     sum-decides good word-is sum-is = rw (← number-is, ← count-is, ← own-is, ← word-is, ← sum-is, good)
+
+    -- the test of the version, as the code makes it of the three tests that it joins
+    joined : (first zero? same : Bool) → ((first && not zero?) || (not first && same)) ≡ (if first then not zero? else same)
+    joined true true same = refl
+    joined true false same = refl
+    joined false zero? same = refl
+
+    abbrev right : Bool
+    right = (i =? 0 && not (own =? 0)) || (not (i =? 0) && own =? version)
+
+    -- the first of a record's tests that fails names its fault; of a record that has one, and where three of them pass, it is the sum's
+    pub number-first : (number =? i) ≡ false → recordFault i n version bytes ≡ (Number of-record i)
+    unfolding recordFault
+    number-first bad = rw (← number-is, bad)
+
+    pub count-first : (number =? i) ≡ true → (count =? n) ≡ false → recordFault i n version bytes ≡ (Count of-record i)
+    unfolding recordFault
+    count-first good bad = rw (← number-is, ← count-is, good, bad)
+
+    pub version-first : (number =? i) ≡ true → (count =? n) ≡ true → right ≡ false → recordFault i n version bytes ≡ (Version of-record i)
+    unfolding recordFault
+    version-first good also bad =
+        rw (← number-is, ← count-is, ← own-is, good, also, ← joined (i =? 0) (own =? 0) (own =? version), bad)
+
+    pub sum-last : (number =? i) ≡ true → (count =? n) ≡ true → right ≡ true → (recordFault i n version bytes ≡ none → ⊥)
+        → recordFault i n version bytes ≡ (Sum of-record i)
+    unfolding recordFault
+    sum-last good also passes faulty = go (sumTest bytes) refl
+      where
+        go : (b : Bool) → sumTest bytes ≡ b → recordFault i n version bytes ≡ (Sum of-record i)
+        go true e = absurd (faulty (rw (← number-is, ← count-is, ← own-is, good, also, ← joined (i =? 0) (own =? 0) (own =? version), passes, e)))
+        go false e = rw (← number-is, ← count-is, ← own-is, good, also, ← joined (i =? 0) (own =? 0) (own =? version), passes, e)

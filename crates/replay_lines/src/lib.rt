@@ -2,9 +2,10 @@
 ghost use mathlib.Core.Bool.{true};
 ghost use Prim.Native.Nat.{_+_, _≤_};
 ghost use lib.ListN.{length};
-ghost use Rattle.rules.specs.Replay.{heading, tailLine, lastLine};
+ghost use Rattle.rules.specs.Replay.{heading, tailLine, lineEnd, lastLine};
 ghost use Rattle.text.specs.Wrote.{WroteWithin, lineRoom};
 use rules::Device;
+use rules::Transfer;
 
 pub fn put_heading(out: &mut [u8], at: usize) -> usize
     requires { ⌜ at + lineRoom ≤ length (now out) ⌝ }
@@ -21,6 +22,22 @@ pub fn put_tail(out: &mut [u8], at: usize, number: u64) -> usize
     text::put_field(out, at, number, b" short\n")
 }
 
+// What the last line ends with: in Failed, the reason and the record number of the fault.
+fn put_line_end(out: &mut [u8], at: usize, t: Transfer) -> usize
+    requires { ⌜ at + 30 ≤ length (now out) ⌝ }
+    ensures { λ r. ⌜ WroteWithin 30 (now (out .entry)) at (lineEnd t) (now (out .exit)) r ⌝ }
+{
+    let phase = t.phase;
+    let failed = device_phase::phase_number(phase) == 4;
+    if !failed {
+        return text::put(out, at, b"\n");
+    }
+    let named = text::put(out, at, b" ");
+    let spaced = text_phase::put_reason(out, named, t.reason);
+    let counted = text::put(out, spaced, b" ");
+    text::put_field(out, counted, t.faulty as u64, b"\n")
+}
+
 pub fn put_last(out: &mut [u8], at: usize, d: Device) -> usize
     requires { ⌜ at + lineRoom ≤ length (now out) ⌝ }
     ensures { λ r. ⌜ WroteWithin lineRoom (now (out .entry)) at (lastLine d) (now (out .exit)) r ⌝ }
@@ -30,5 +47,6 @@ pub fn put_last(out: &mut [u8], at: usize, d: Device) -> usize
     let named = text::put(out, at, b"end ");
     let spaced = text_phase::put_phase(out, named, phase);
     let counted = text::put(out, spaced, b" ");
-    text::put_field(out, counted, transfer.contexts as u64, b"\n")
+    let end = text::put_decimal(out, counted, transfer.contexts as u64);
+    put_line_end(out, end, transfer)
 }

@@ -22,9 +22,11 @@ pub mod Possible
 pub mod Given
 pub mod Demand1
 -- Document 02.
+pub mod Faults
 pub mod Le
 pub mod Records
 pub mod Images
 pub mod Counting
 pub mod Reports
 pub mod Sums
+pub mod Adopting

@@ -6,7 +6,7 @@ use lib.ListN.{length}
 use Rattle.rules.specs.Tests.{_=?_}
 use Rattle.rules.specs.Numbers.{areaSize, lastContext, verification}
 use Rattle.rules.specs.Record.{_is_, fresh, given, possible, Module, moduleOf}
-use Rattle.rules.specs.Image.{imageOf}
+use Rattle.rules.specs.Fault.{imageOf}
 use Rattle.rules.specs.Transfer.{receivedBytes}
 use Rattle.rules.specs.Module.{Event, tick, step}
 use Rattle.rules.specs.History.{historyOf, end, Same, only, All, _and-then_}

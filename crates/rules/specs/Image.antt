@@ -3,9 +3,8 @@
 use Prim.Native.Nat.{ℕ, zero, suc, _+_, _*_, _/_, _%_, _^_}
 use mathlib.Core.{Bool.{Bool, true, not, _&&_}, List.List}
 use lib.ListN.{length, take, drop}
-use Rattle.rules.specs.Tests.{if_then_else_, _≤?_, _=?_}
+use Rattle.rules.specs.Tests.{_≤?_, _=?_}
 use Rattle.rules.specs.Bytes.{numberAt}
-use Rattle.rules.specs.declared.{Image.Image, Image.the-variants.{Good, Bad}}
 
 -- "records of 128 bytes"
 abbrev pub imageRecordSize : ℕ
@@ -92,7 +91,3 @@ goodImage bytes =
     goodSize bytes
     && not (versionOf bytes =? 0)
     && goodRecords (recordsOf bytes) 0 (recordsOf bytes) (versionOf bytes) bytes
-
--- what the received bytes are
-unfoldable pub imageOf : List ℕ → Image
-imageOf bytes = if goodImage bytes then Good (versionOf bytes) else Bad

@@ -48,6 +48,7 @@ pub mod Refusals
 pub mod Table
 pub mod Thresholds
 pub mod Image
+pub mod Fault
 pub mod Transfer
 pub mod Security
 pub mod Module
@@ -71,3 +72,4 @@ pub mod Beside
 -- Document 02.
 pub mod Report
 pub mod Made
+pub mod Adopt

@@ -7,7 +7,7 @@ use lib.ListN.{length, take, drop}
 use Rattle.rules.specs.Tests.{if_then_else_, _<?_, _=?_}
 use Rattle.rules.specs.Bytes.{le, zeros, splice, AreBytes}
 use Rattle.rules.specs.Image.{imageRecordSize, mostRecords, Field, numberField, countField, versionField, payloadField, sumField}
-use Rattle.rules.specs.Image.{bytesIn, recordsOf, recordSum, imageOf}
+use Rattle.rules.specs.{Image.{bytesIn, recordsOf, recordSum}, Fault.imageOf}
 use Rattle.rules.specs.declared.{Image.Image, Image.the-variants.{Good, Bad}}
 use Rattle.rules.specs.declared.{Making.Making, Making.the-variants.{Made, VersionZero, PayloadOver128Records, OutputTooShort}}
 use Rattle.rules.specs.declared.{ReadingBack.ReadingBack, ReadingBack.the-variants.{Read, NotGoodImage, OutputTooShort as ReadTooShort}}
@@ -81,7 +81,7 @@ outputMade OutputTooShort image output = output
 -- "for reading back, not a good image, output too short"
 abbrev pub readingIf : Image → (image output : List ℕ) → ReadingBack
 readingIf (Good version) image output = if length output <? recordsOf image * partSize then ReadTooShort else Read (recordsOf image * partSize)
-readingIf Bad image output = NotGoodImage
+readingIf (Bad reason number) image output = NotGoodImage
 
 unfoldable pub readingOf : (image output : List ℕ) → ReadingBack
 readingOf image output = readingIf (imageOf image) image output

@@ -25,7 +25,7 @@ p is q = phaseNumber p =? phaseNumber q
 abbrev pub fresh : Device
 fresh =
     record {
-      transfer = record { phase = Idle; contexts = 0; received = 0; ticks = 0; running = 1; staged = 0 };
+      transfer = record { phase = Idle; contexts = 0; received = 0; ticks = 0; running = 1; staged = 0; reason = 0; faulty = 0 };
       thresholds = record { enable = 0; spare = 0; media = 0; controller = 0 };
       security = record { enabled = false; locked = false; frozen = false; attempts = 0; passphrase = zeros 32 };
     }
@@ -42,16 +42,25 @@ current t = t .contexts
 abbrev pub live : Transfer → ℕ → Bool
 live t context = not (t .phase is Idle) && context =? current t
 
+-- document 02, T-03: "The tick keeps reason and record number in Failed, a possible record has 1 to 5 and 0 to 127 there and zeros elsewhere"
+abbrev pub possibleFault : Transfer → Bool
+possibleFault t =
+    (t .phase is Failed implies (1 ≤? t .reason && t .reason ≤? 5 && t .faulty ≤? 127))
+    && ((t .reason =? 0 && t .faulty =? 0) unless t .phase is Failed)
+
 -- "A record is possible if: contexts is at least 1 outside Idle; received is at most 16,384, and 0 in Idle; ticks left is 1 to 8 in Verifying and 0
 -- elsewhere; staged version is 0 outside Staged;"
-unfoldable pub possibleTransfer : Transfer → Bool
-possibleTransfer t =
+abbrev pub possibleNumbers : Transfer → Bool
+possibleNumbers t =
     (1 ≤? current t unless t .phase is Idle)
     && (t .received ≤? areaSize)
     && (t .phase is Idle implies t .received =? 0)
     && (t .phase is Verifying implies (1 ≤? t .ticks && t .ticks ≤? verification))
     && (t .ticks =? 0 unless t .phase is Verifying)
     && (t .staged =? 0 unless t .phase is Staged)
+
+unfoldable pub possibleTransfer : Transfer → Bool
+possibleTransfer t = possibleNumbers t && possibleFault t
 
 -- "locked only if enabled; passphrase all zero if not enabled; attempts at most 10;"
 unfoldable pub possibleSecurity : Security → Bool

@@ -7,12 +7,12 @@ use mathlib.Core.{Bool.Bool, List.{List, [], _++_}}
 use lib.ListN.{length}
 use Rattle.rules.specs.Tests.{if_then_else_, _=?_}
 use Rattle.rules.specs.Bytes.{zeros}
-use Rattle.rules.specs.Text.{ascii, field}
+use Rattle.rules.specs.Text.{ascii, decimal, field}
 use Rattle.rules.specs.Numbers.{areaSize, answerRoom}
-use Rattle.rules.specs.Record.{fresh, given, Module, moduleOf}
+use Rattle.rules.specs.Record.{_is_, fresh, given, Module, moduleOf}
 use Rattle.rules.specs.Module.{Result, callResult, tickResult, powerResult}
 use Rattle.rules.specs.Log.{entryOf, requestIn, recordsIn, recordAt, shortTail}
-use Rattle.rules.specs.declared.{Phase.Phase, Phase.the-variants.{Idle, Receiving, Verifying, Staged, Failed}, Device.Device, Refusal.the-variants.{R, Status}}
+use Rattle.rules.specs.declared.{Phase.Phase, Phase.the-variants.{Idle, Receiving, Verifying, Staged, Failed}, Transfer.Transfer, Device.Device, Refusal.the-variants.{R, Status}}
 use Rattle.rules.specs.declared.{Verdict.Verdict, Verdict.the-variants.{Accepted, Refused}, Reply.Reply, Entry.Entry, Entry.the-variants.{Call, Tick, Power, Bad}}
 
 -- "Replay starts from a fresh module and an area of zeros"
@@ -86,8 +86,22 @@ phaseName Verifying = "verifying"
 phaseName Staged = "staged"
 phaseName Failed = "failed"
 
+-- document 02, T-03: the reasons' words, by their numbers (B9)
+abbrev pub reasonName : (reason : ℕ) → String
+reasonName reason =
+    if reason =? 1 then "size"
+    else if reason =? 2 then "number"
+    else if reason =? 3 then "count"
+    else if reason =? 4 then "version"
+    else "sum"
+
+-- "the replay's last line then ends with both [reason and record number], as in `end failed 1 sum 3`": in Failed, and nowhere else (B12)
+abbrev pub lineEnd : Transfer → List ℕ
+lineEnd t = if t .phase is Failed then ascii " " ++ ascii (reasonName (t .reason)) ++ ascii " " ++ field (t .faulty) "\n" else ascii "\n"
+
 abbrev pub lastLine : Device → List ℕ
-lastLine d = ascii "end " ++ ascii (phaseName (d .transfer .phase)) ++ ascii " " ++ field (given (d .transfer)) "\n"
+lastLine d =
+    ascii "end " ++ ascii (phaseName (d .transfer .phase)) ++ ascii " " ++ decimal (given (d .transfer)) ++ lineEnd (d .transfer)
 
 -- The text of a whole log.
 unfoldable pub replayText : (log : List ℕ) → List ℕ

@@ -39,6 +39,15 @@ eight-ticks = ticks ++ ticks ++ ticks ++ ticks ++ ticks ++ ticks ++ ticks ++ tic
 abbrev sends-image : List ℕ
 sends-image = asks 1 14 (le 4 1 ++ le 4 0 ++ le 4 128 ++ le 2 0 ++ le 2 1 ++ le 8 1 ++ zeros 112 ++ (0x01 ∷ 0x00 ∷ 0x01 ∷ 0x00 ∷ []))
 
+-- record i of an image of four, version 1, with this sum; and the four, of which the last has a sum that is one too low
+abbrev one-of-four : (i sum : ℕ) → List ℕ
+one-of-four i sum = le 2 i ++ le 2 4 ++ le 8 1 ++ zeros 112 ++ le 4 sum
+
+abbrev sends-four : List ℕ
+sends-four =
+    asks 1 14
+    (le 4 1 ++ le 4 0 ++ le 4 512 ++ one-of-four 0 0x40001 ++ one-of-four 1 0x40002 ++ one-of-four 2 0x40003 ++ one-of-four 3 0x40003)
+
 abbrev finishes : List ℕ
 finishes = asks 1 15 (zeros 4 ++ le 4 1)
 
@@ -60,7 +69,11 @@ texts =
     ∷ (asks 1 13 [] ++ finishes prints heading ++ ascii "0 call 0 0 8\n1 call 0 0 4\nend verifying 1\n")
     ∷ (asks 1 13 [] ++ finishes ++ eight-ticks ++ asks 1 16 (le 4 1)
     prints heading
-    ++ ascii "0 call 0 0 8\n1 call 0 0 4\n2 tick\n3 tick\n4 tick\n5 tick\n6 tick\n7 tick\n8 tick\n9 tick\n10 call 7 3 12\nend failed 1\n")
+    ++ ascii "0 call 0 0 8\n1 call 0 0 4\n2 tick\n3 tick\n4 tick\n5 tick\n6 tick\n7 tick\n8 tick\n9 tick\n10 call 7 3 12\nend failed 1 size 0\n")
+    -- document 02, T-03: "as in `end failed 1 sum 3`"
+    ∷ (asks 1 13 [] ++ sends-four ++ finishes ++ eight-ticks
+    prints heading
+    ++ ascii "0 call 0 0 8\n1 call 0 0 4\n2 call 0 0 4\n3 tick\n4 tick\n5 tick\n6 tick\n7 tick\n8 tick\n9 tick\n10 tick\nend failed 1 sum 3\n")
     ∷ (asks 1 13 [] ++ sends-image ++ finishes ++ eight-ticks
     prints heading
     ++ ascii "0 call 0 0 8\n1 call 0 0 4\n2 call 0 0 4\n3 tick\n4 tick\n5 tick\n6 tick\n7 tick\n8 tick\n9 tick\n10 tick\nend staged 1\n")

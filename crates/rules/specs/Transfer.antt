@@ -6,10 +6,10 @@ use lib.ListN.{length, take, drop}
 use Rattle.rules.specs.Tests.{if_then_else_, _<?_, _=?_}
 use Rattle.rules.specs.Bytes.{le, numberAt, zeros, splice}
 use Rattle.rules.specs.Numbers.{areaSize, longestPiece, verification, tickMicroseconds, lastContext}
-use Rattle.rules.specs.With.{_with-phase_, _with-contexts_, _with-received_, _with-ticks_, _with-running_, _with-staged_}
+use Rattle.rules.specs.With.{_with-phase_, _with-contexts_, _with-received_, _with-ticks_, _with-running_, _with-staged_, _with-reason_, _with-faulty_}
 use Rattle.rules.specs.Record.{_is_, given, current, live}
 use Rattle.rules.specs.Refusals.{Check, _gives_}
-use Rattle.rules.specs.Image.{imageOf}
+use Rattle.rules.specs.Fault.{reasonNumber, imageOf}
 use Rattle.rules.specs.declared.{Refusal.the-variants.Status, Image.Image, Image.the-variants.{Good, Bad}}
 use Rattle.rules.specs.declared.{Phase.the-variants.{Idle, Receiving, Verifying, Staged, Failed}, Transfer.Transfer}
 
@@ -42,9 +42,13 @@ startChecks t =
     ∷ (given t =? lastContext gives Status 8 0)
     ∷ []
 
+-- document 02, T-03: "Start and power cycle clear both", the reason and the record number of a fault
+abbrev pub withoutFault : Transfer → Transfer
+withoutFault t = t with-reason 0 with-faulty 0
+
 -- "Else the next number is given, received is 0, phase Receiving;" "Numbers .. are never given again": `NeverAgain` in Demand3.antt says it of histories.
 abbrev pub startChange : Transfer → Transfer
-startChange t = t with-contexts (given t + 1) with-received 0 with-phase Receiving
+startChange t = withoutFault (t with-contexts (given t + 1) with-received 0 with-phase Receiving)
 
 -- "the answer carries the context."
 abbrev pub startAnswer : Transfer → List ℕ
@@ -141,9 +145,10 @@ abbrev pub receivedBytes : Transfer → (area : List ℕ) → List ℕ
 receivedBytes t area = take (t .received) area
 
 -- "With 1 [tick left]: ticks left 0, and Staged with the image's version if the received bytes are a good image, else Failed."
+-- Document 02, T-03: "The tick keeps reason and record number in Failed".
 abbrev pub afterVerifying : Transfer → Image → Transfer
 afterVerifying t (Good version) = t with-ticks 0 with-phase Staged with-staged version
-afterVerifying t Bad = t with-ticks 0 with-phase Failed
+afterVerifying t (Bad reason i) = t with-ticks 0 with-phase Failed with-reason (reasonNumber reason) with-faulty i
 
 -- "Tick. .. In Verifying with more than 1 tick left: one less." "Other phases: no change."
 abbrev pub tickChange : Transfer → (area : List ℕ) → Transfer
@@ -158,4 +163,4 @@ runningAfter t = if t .phase is Staged then t .staged else t .running
 
 -- "Then in every case: Idle, received 0, ticks 0, staged version 0"; "Contexts .. stay." "Numbers outlive power cycles".
 abbrev pub transferPower : Transfer → Transfer
-transferPower t = t with-running (runningAfter t) with-phase Idle with-received 0 with-ticks 0 with-staged 0
+transferPower t = withoutFault (t with-running (runningAfter t) with-phase Idle with-received 0 with-ticks 0 with-staged 0)

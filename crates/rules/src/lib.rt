@@ -51,12 +51,15 @@ pub enum Phase {
     Failed,
 }
 
-// The device record's firmware part: contexts given out so far, bytes received, ticks left, running and staged version.
+// The device record's firmware part: contexts given out so far, bytes received, ticks left, running and staged version; and in Failed, of the image's first
+// fault (document 02, T-03), the reason and the faulty record's number.
 pub struct Transfer {
     pub phase: Phase,
     pub contexts: u32,
     pub received: u32,
     pub ticks: u8,
+    pub reason: u8,
+    pub faulty: u8,
     pub running: u64,
     pub staged: u64,
 }
@@ -129,10 +132,19 @@ pub struct Row {
     pub answer: usize,
 }
 
-// What the received bytes are.
+// Why the received bytes are no good image, in the order of the tests: the size; then of a record its number, count, version and sum.
+pub enum Reason {
+    Size,
+    Number,
+    Count,
+    Version,
+    Sum,
+}
+
+// What the received bytes are: a good image with its version, or a bad one with its first fault, a reason and a record number.
 pub enum Image {
     Good { version: u64 },
-    Bad,
+    Bad { reason: Reason, number: u8 },
 }
 
 // What a 544-byte record of a log says.

@@ -3,7 +3,7 @@
 use Prim.Native.Nat.{ℕ, _≤_}
 use mathlib.Core.{Path.{_≡_, refl, sym, _∙_, ap, subst}, Logic.{_⊎_, _↔_, inl, inr}, Bool.{Bool, true, false, false≢true, _&&_}, List.{List, [], _∷_, _++_}}
 use borrow.Author.Tests.{eqb-true, eq-eqb}
-use Rattle.rules.{specs.Tests._=?_, specs.Numbers.verification, specs.Record.{Module, _is_}, specs.Image.imageOf, specs.Module.{Event, tick, step}}
+use Rattle.rules.{specs.Tests._=?_, specs.Numbers.verification, specs.Record.{Module, _is_}, specs.Fault.imageOf, specs.Module.{Event, tick, step}}
 use Rattle.rules.{specs.History.{All, keep, only, historyOf, end, Same, _and-then_}, specs.Transfers.{machine, Exchange, History, kindOf, none, AllInOrder, AllByStarter}}
 use Rattle.rules.{specs.Hosts.Honest, specs.Sends.{isSendOf, ownSend, ownSends, others, pieces, SentBy, FinishedIn, ticksIn, powerCycles}}
 use Rattle.rules.specs.Moves.{moved, ByMoves, as-it-is, one-more, rearranged}

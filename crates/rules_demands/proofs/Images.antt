@@ -1,7 +1,7 @@
 -- T-02 written out, from its theorem; its examples, by computation over the definitions.
 -- Assumes nothing.
 use mathlib.Core.Path.{refl}
-use Rattle.rules.specs.{Image.{sumOfWords, goodRecord, goodRecords, goodImage, imageOf}}
+use Rattle.rules.specs.{Image.sumOfWords, Fault.{recordFault, recordsFault, firstFault, imageOf}}
 use Rattle.rules.specs.Made.{madeRecord, madeRecords, madeImage, carried, payloadOf, makingOf, readingOf}
 use Rattle.rules.proofs.page.Images.{request-T02}
 use Rattle.rules_demands.specs.Images.{ImagesWrittenOut, ImagesHeld}
@@ -17,7 +17,7 @@ written-out =
     }
 
 pub images-held : ImagesHeld
-unfolding sumOfWords goodRecord goodRecords goodImage imageOf madeRecord madeRecords madeImage carried payloadOf makingOf readingOf
+unfolding sumOfWords recordFault recordsFault firstFault imageOf madeRecord madeRecords madeImage carried payloadOf makingOf readingOf
 images-held =
     record {
       empty-payload = refl;

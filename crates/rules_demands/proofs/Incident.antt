@@ -6,7 +6,7 @@ use native.Mathlib.Omega.{arith}
 use lib.ListN.{length, take, drop, replicate, length-replicate}
 use Rattle.rules.{specs.Bytes.{le, zeros, zeros?}, specs.Numbers.{areaSize, answerRoom}}
 use Rattle.rules.{specs.Record.{phaseNumber, possible, possibleTransfer, possibleSecurity, possibleThresholds, Module}, specs.Refusals.verdict}
-use Rattle.rules.{specs.Table.{rowOf, fits?}, specs.Image.{sumOfWords, goodRecord, goodRecords, goodImage, imageOf}}
+use Rattle.rules.{specs.Table.{rowOf, fits?}, specs.Image.sumOfWords, specs.Fault.{recordFault, recordsFault, firstFault, imageOf}}
 use Rattle.rules.{specs.Module.{Result, Event, call, tick, power, step, callResult, tickResult, powerResult}, specs.Replay.{printedStatus, printedExt}}
 use Rattle.rules.{specs.History.historyOf, specs.Transfers.{machine, Exchange}, specs.Moves.rearranged, specs.Hosts.Honest}
 use Rattle.rules.{specs.Demand3.{freshWith, struck, EachFromOneHost, Demand3Of}, proofs.histories.Demand3.demand-3}
@@ -110,7 +110,7 @@ pub comes-to : told new (same-hour ++ restart)
     -- the laptop's Get FW Info
     ∷ (0 ∷ 0 ∷ 0 ∷ 0 ∷ 2 ∷ [])
     ∷ []
-unfolding zeros? possible possibleTransfer possibleSecurity possibleThresholds verdict rowOf fits? sumOfWords goodRecord goodRecords goodImage imageOf callResult tickResult powerResult
+unfolding zeros? possible possibleTransfer possibleSecurity possibleThresholds verdict rowOf fits? sumOfWords recordFault recordsFault firstFault imageOf callResult tickResult powerResult
 comes-to = refl
 
 -- who called which function, in the order of the rearranged history: the laptop's Get FW Info goes before the recorder's Start
@@ -121,12 +121,12 @@ caller power = (0, 1)
 
 pub moved : map (λ (x : Exchange). caller (x .event)) (rearranged (struck (historyOf machine new same-hour)))
     ≡ (2, 12) ∷ (1, 13) ∷ (1, 14) ∷ (1, 14) ∷ (1, 15) ∷ (0, 0) ∷ (0, 0) ∷ (0, 0) ∷ (0, 0) ∷ (0, 0) ∷ (0, 0) ∷ (0, 0) ∷ []
-unfolding zeros? possible possibleTransfer possibleSecurity possibleThresholds verdict rowOf fits? sumOfWords goodRecord goodRecords goodImage imageOf callResult tickResult powerResult
+unfolding zeros? possible possibleTransfer possibleSecurity possibleThresholds verdict rowOf fits? sumOfWords recordFault recordsFault firstFault imageOf callResult tickResult powerResult
 moved = refl
 
 -- Both hosts are honest: the recorder uses the context that its Start answered, the laptop uses none.
 pub honest : Honest (historyOf machine new (same-hour ++ restart))
-unfolding zeros? possible possibleTransfer possibleSecurity possibleThresholds verdict rowOf fits? sumOfWords goodRecord goodRecords goodImage imageOf callResult tickResult powerResult
+unfolding zeros? possible possibleTransfer possibleSecurity possibleThresholds verdict rowOf fits? sumOfWords recordFault recordsFault firstFault imageOf callResult tickResult powerResult
 honest = checked (historyOf machine new (same-hour ++ restart)) .0 refl
 
 -- so all of demand 3 holds of it

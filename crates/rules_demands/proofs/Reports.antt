@@ -3,7 +3,7 @@
 use mathlib.Core.{Path.{_≡_, refl, ap}, List.{List, _∷_, _++_}}
 use Prim.Native.Nat.{ℕ}
 use Rattle.rules.{specs.Bytes.{zeros?, same?}, specs.Record.{possible, possibleTransfer, possibleSecurity, possibleThresholds}, specs.Refusals.verdict}
-use Rattle.rules.{specs.Table.{rowOf, fits?, mask}, specs.Image.{sumOfWords, goodRecord, goodRecords, goodImage, imageOf}, specs.Module.{callResult, tickResult, powerResult}}
+use Rattle.rules.{specs.Table.{rowOf, fits?, mask}, specs.Image.sumOfWords, specs.Fault.{recordFault, recordsFault, firstFault, imageOf}, specs.Module.{callResult, tickResult, powerResult}}
 use Rattle.rules.{specs.Text.decimal, specs.Log.entryOf, specs.Replay.moduleAfter}
 use Rattle.rules.{specs.Report.{Report, reportAfter, fits, feed, two-swapped}, proofs.page.Sums.request-T01}
 use Rattle.rules_demands.specs.Reports.{ReportsWrittenOut, ReportsHeld}
@@ -24,5 +24,5 @@ written-out =
     }
 
 pub reports-held : ReportsHeld
-unfolding zeros? same? possible possibleTransfer possibleSecurity possibleThresholds verdict rowOf fits? mask sumOfWords goodRecord goodRecords goodImage imageOf callResult tickResult powerResult decimal entryOf moduleAfter reportAfter fits feed
+unfolding zeros? same? possible possibleTransfer possibleSecurity possibleThresholds verdict rowOf fits? mask sumOfWords recordFault recordsFault firstFault imageOf callResult tickResult powerResult decimal entryOf moduleAfter reportAfter fits feed
 reports-held = record { printed = refl; largest-fits = refl; too-many-first = refl; too-many-fourth = refl }

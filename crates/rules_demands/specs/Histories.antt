@@ -5,7 +5,7 @@ use Prim.Native.Nat.{ℕ, _≤_, _<_}
 use mathlib.Core.{Path._≡_, Logic.{_⊎_, _↔_}, Bool.true, List.{List, _∷_}}
 use lib.ListN.{length, take}
 use Rattle.rules.specs.Record.{fresh, possible, Module, moduleOf}
-use Rattle.rules.specs.Image.{imageOf}
+use Rattle.rules.specs.Fault.{imageOf}
 use Rattle.rules.specs.Module.{Event, tick, step}
 use Rattle.rules.specs.History.{All, _and-then_}
 use Rattle.rules.specs.Transfers.{Exchange, History, Kind, Started, Sent, Finished, Ticked, Powered, Other}

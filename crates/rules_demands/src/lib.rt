@@ -4,6 +4,8 @@ ghost use Rattle.rules.specs.Demand1.{Demand1};
 ghost use Rattle.rules.specs.Demand3.{Demand3};
 ghost use Rattle.rules.specs.Report.{RequestT01};
 ghost use Rattle.rules.specs.Made.{RequestT02};
+ghost use Rattle.rules.specs.Fault.{RequestT03};
+ghost use Rattle.rules.specs.Adopt.{Adopting};
 ghost use Rattle.rules_demands.specs.Calls.{Demand1WrittenOut};
 ghost use Rattle.rules_demands.specs.Histories.{Demand3WrittenOut};
 ghost use Rattle.rules_demands.specs.Beside.{BesideWrittenOut};
@@ -46,4 +48,10 @@ pub fn request_t02()
     ensures { λ r. ⌜ RequestT02 ⌝ }
     ensures { λ r. ⌜ ImagesWrittenOut ⌝ }
     ensures { λ r. ⌜ ImagesHeld ⌝ }
+{}
+
+// Document 02, T-03: the fault that is named is the first, and there is none exactly where the image is good; and a record kept before is possible once taken over.
+pub fn request_t03()
+    ensures { λ r. ⌜ RequestT03 ⌝ }
+    ensures { λ r. ⌜ Adopting ⌝ }
 {}

@@ -1,1 +1,2 @@
 pub mod PhaseName
+pub mod ReasonName

@@ -18,6 +18,8 @@ pub fn start(t: Transfer) -> Transfer
         phase: Phase::Receiving,
         contexts: t.contexts + 1,
         received: 0,
+        reason: 0,
+        faulty: 0,
         ..t
     }
 }

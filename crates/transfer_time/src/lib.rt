@@ -2,10 +2,24 @@
 ghost use mathlib.Core.Path.{_≡_};
 ghost use Prim.Native.Nat.{_≤_};
 ghost use lib.ListN.{length};
+ghost use Rattle.rules.specs.Fault.{reasonNumber};
 ghost use Rattle.rules.specs.Transfer.{tickChange, afterVerifying, transferPower, runningAfter};
 use rules::Image;
 use rules::Phase;
+use rules::Reason;
 use rules::Transfer;
+
+fn reason_number(reason: Reason) -> u8
+    ensures { λ r. ⌜ r ≡ reasonNumber reason ⌝ }
+{
+    match reason {
+        Reason::Size => 1,
+        Reason::Number => 2,
+        Reason::Count => 3,
+        Reason::Version => 4,
+        Reason::Sum => 5,
+    }
+}
 
 fn verified(t: Transfer, image: Image) -> Transfer
     ensures { λ r. ⌜ r ≡ afterVerifying t image ⌝ }
@@ -17,9 +31,11 @@ fn verified(t: Transfer, image: Image) -> Transfer
             staged: version,
             ..t
         },
-        Image::Bad => Transfer {
+        Image::Bad { reason, number } => Transfer {
             phase: Phase::Failed,
             ticks: 0,
+            reason: reason_number(reason),
+            faulty: number,
             ..t
         },
     }
@@ -65,6 +81,8 @@ pub fn power(t: Transfer) -> Transfer
         ticks: 0,
         running: running_after(t),
         staged: 0,
+        reason: 0,
+        faulty: 0,
         ..t
     }
 }

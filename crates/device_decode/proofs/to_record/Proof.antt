@@ -7,28 +7,30 @@ use Rattle.device_decode.proofs.{Decoded.read, to_record.Statement.stat
 use borrow.Author.Needs.{needs}
 use Rattle.device_decode.proofs.to_record.Tie as tie
 
+-- the numbers, in the order in which they are read: of the security state, of the thresholds, of the transfer
 returns : tie.Need-returns
 returns c =
-    let s = c .before .before .before .before .before .before .before .before .before .before .before .before .before .before .before .before .before .before .before .before .args .s .now in
-    read s (c .before .before .before .before .before .before .before .before .before .before .before .before .before .before .before .before .before .before .byte .ensures)
-    (c .before .before .before .before .before .before .before .before .before .before .before .before .before .before .before .before .before .phase-of .ensures)
-    (c .before .before .before .before .before .before .before .before .before .before .before .before .before .before .before .before .word .ensures)
-    (c .before .before .before .before .before .before .before .before .before .before .before .before .before .before .before .word2 .ensures) (c .before .before .before .before .before .before .before .before .before .before .before .before .before .before .byte2 .ensures)
-    (c .before .before .before .before .before .before .before .before .before .before .before .before .before .long .ensures) (c .before .before .before .before .before .before .before .before .before .before .before .before .long2 .ensures)
-    (c .before .before .before .before .before .before .before .before .before .before .before .half .ensures)
-    (c .before .before .before .before .before .before .before .before .before .before .byte3 .ensures)
-    (c .before .before .before .before .before .before .before .before .before .half2 .ensures)
-    (c .before .before .before .before .before .before .before .before .half3 .ensures)
-    (c .before .before .before .before .before .copy .ensures ∙ copy-whole (take 32 (drop 64 s)) _ (search needs))
-    (c .before .before .before .byte4 .ensures) (c .before .before .byte5 .ensures) (c .before .byte6 .ensures) (c .byte7 .ensures)
+    let security = c .before .before .before in
+    let copied = security .before .before in
+    let thresholds = copied .before .before .before .before in
+    let transfer = thresholds .before .before .before .before in
+    let versions = transfer .before .before in
+    let first = versions .before .before .before .before .before in
+    let s = first .before .before .args .s .now in
+    read s (first .byte .ensures) (versions .before .before .before .before .phase-of .ensures)
+    (versions .before .before .before .word .ensures) (versions .before .before .word2 .ensures) (versions .before .byte2 .ensures)
+    (versions .long .ensures) (transfer .before .long2 .ensures) (transfer .byte3 .ensures) (thresholds .before .before .before .byte4 .ensures)
+    (thresholds .before .before .half .ensures) (thresholds .before .byte5 .ensures) (thresholds .half2 .ensures) (copied .before .before .before .half3 .ensures)
+    (copied .copy .ensures ∙ copy-whole (take 32 (drop 64 s)) _ (search needs))
+    (security .byte6 .ensures) (c .before .before .byte7 .ensures) (c .before .byte8 .ensures) (c .byte9 .ensures)
 
--- by search: byte-requires, phase-of-requires, word-requires, word-requires-2, byte-requires-2, long-requires, long-requires-2, half-requires,
--- byte-requires-3, half-requires-2, half-requires-3, slice-aggregate-copy, sub-copy, part-copy-start, part-copy-end, copy-requires, byte-requires-4,
--- byte-requires-5, byte-requires-6, byte-requires-7
+-- by search: the place of each number, the passphrase's part
 pub to-record-spec : {M : Type 1} → statement M
 to-record-spec =
     tie.close
     (tie.spec
+    (λ c κs. search needs)
+    (λ c κs. search needs)
     (λ c κs. search needs)
     (λ c κs. search needs)
     (λ c κs. search needs)

@@ -7,10 +7,10 @@ use Rattle.device_decode.proofs.zero_between.Tie as tie
 
 returns : tie.Need-returns
 returns c =
-    let s = c .before .before .before .before .before .args .s .now in
-    zero-more 38 18 8 s (zero-more 38 10 8 s (zero-more 38 2 8 s (zero-first 38 2 s (c .before .before .before .half .ensures)) (c .before .before .long .ensures)) (c .before .long2 .ensures)) (c .long3 .ensures)
+    let s = c .before .before .before .before .args .s .now in
+    zero-more 40 16 8 s (zero-more 40 8 8 s (zero-first 40 8 s (c .before .before .long .ensures)) (c .before .long2 .ensures)) (c .long3 .ensures)
 
--- by search: half-requires, long-requires, long-requires-2, long-requires-3
+-- by search: long-requires, long-requires-2, long-requires-3
 pub zero-between-spec : {M : Type 1} → statement M
 zero-between-spec =
-    tie.close (tie.spec (λ c κs. search needs) (λ c κs. search needs) (λ c κs. search needs) (λ c κs. search needs) returns)
+    tie.close (tie.spec (λ c κs. search needs) (λ c κs. search needs) (λ c κs. search needs) returns)

@@ -1,16 +1,14 @@
--- `device_possible::possible_transfer` meets its contract. Each clause of the page is one flag.
+-- `device_possible::possible_transfer` meets its contract. It is the page's clauses and T-03's.
 -- Assumes nothing.
 use Rattle.rules.specs.Record.{possibleTransfer}
 use borrow.Author.Needs.{needs}
 use Rattle.device_possible.proofs.possible_transfer.Statement.{statement}
 use Rattle.device_possible.proofs.possible_transfer.Tie as tie
 
-phase-number-requires : tie.Need-phase-number-requires
-phase-number-requires c κs = search needs
-
 returns : tie.Need-returns
 unfolding possibleTransfer
-returns c = simp (c .before .before .before .before .before .before .before .phase-number .ensures)
+returns c = simp (c .before .possible-numbers .ensures, c .possible-fault .ensures)
 
+-- by search: possible-numbers-requires, possible-fault-requires
 pub possible-transfer-spec : {M : Type 1} → statement M
-possible-transfer-spec = tie.close (tie.spec phase-number-requires returns)
+possible-transfer-spec = tie.close (tie.spec (λ c κs. search needs) (λ c κs. search needs) returns)

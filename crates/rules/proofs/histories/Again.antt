@@ -16,7 +16,7 @@ abbrev AtLeast : (c : ℕ) → TransferPart → Type 0
 AtLeast c s = c ≤ givenIn s
 
 at-least : (c : ℕ) → Invariant (AtLeast c)
-at-least c = record { change = change; ticked = λ s g. by-tick (AtLeast c) s g (λ p l. g) (λ version p. g) (λ p. g); powered = λ s g. g }
+at-least c = record { change = change; ticked = λ s g. by-tick (AtLeast c) s g (λ p l. g) (λ version p. g) (λ reason faulty k p. g); powered = λ s g. g }
   where
     change : (s : TransferPart) (a b : Bool) (x : TransferCall) → partVerdict s a b x ≡ Accepted → AtLeast c s → AtLeast c (partChange s x)
     change s a b GetFwInfo v g = g

@@ -4,7 +4,7 @@ use Prim.Native.Nat.{ℕ, _+_, _-_, _≤_, _<_}
 use mathlib.Core.{Path.{_≡_, refl, sym, _∙_, ap, subst}, Bool.{Bool, true, false}, List.{[], List, _∷_, _++_, append-assoc, append-nil}}
 use native.Mathlib.Omega.{arith}
 use borrow.Author.Tests.{eqb-true}
-use Rattle.rules.specs.{Tests.{if_then_else_, _=?_}, Numbers.verification, With.{_with-ticks_, _with-phase_, _with-received_}, Record.{_is_, Module}, Image.imageOf}
+use Rattle.rules.specs.{Tests.{if_then_else_, _=?_}, Numbers.verification, With.{_with-ticks_, _with-phase_, _with-received_}, Record.{_is_, Module}, Fault.imageOf}
 use Rattle.rules.specs.{Transfer.{GetFwInfo, Start, Send, Finish, Query, receivedBytes}, History.{Plays, end, All, afterExchange}}
 use Rattle.rules.specs.Transfers.{Answer, Exchange, History, Kind, Finished, Ticked, Other, kindOf, Open, none, by, bytesSoFar, ContextIs, InOrder, AllInOrder, openNext}
 use Rattle.rules.specs.{Sends.{ownSends, pieces, FinishedIn, tickCount, ticksIn, powerCount, powerCycles}, Demand3.{remains, Sound, Due}, declared.Phase.Phase}

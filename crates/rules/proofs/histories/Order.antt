@@ -90,7 +90,7 @@ send-fits (by starter c bytes) s context offset size piece long f k =
 -- a tick
 tick-fits : (o : Open) (s : TransferPart) → Fits o s → Fits o (partTick s)
 tick-fits (by host context bytes) s f = subst (λ (u : TransferPart). Holding context bytes u) (sym (still s (ap (λ (q : Phase). q is Verifying) (f .at)))) f
-tick-fits none s f = by-tick (Fits none) s f (λ p l. f) (λ version p. refl) (λ p. refl)
+tick-fits none s f = by-tick (Fits none) s f (λ p l. f) (λ version p. refl) (λ reason faulty k p. refl)
 
 -- an act that is nothing to the transfers, and leaves what they use
 goes-other : (f : Act) (o : Open) (s u : TransferPart) → Fits o s → u ≡ s → Goes f o Other s u

@@ -4,7 +4,7 @@ use Prim.Native.Nat.{ℕ, zero, suc, _≤_}
 use mathlib.Core.{Path.{_≡_, refl, sym, _∙_, ap}, Logic.{_⊎_, inl, inr}, Bool.{Bool, true, false, _||_, _&&_}, List.{List, _∷_}}
 use native.Mathlib.Omega.{arith}
 use borrow.Author.Tests.{eqb-true, eq-eqb}
-use Rattle.rules.specs.{Tests.{if_then_else_, _=?_}, Record.{_is_, Module}, Image.imageOf, Refusals.refused?, Table.rowOf}
+use Rattle.rules.specs.{Tests.{if_then_else_, _=?_}, Record.{_is_, Module}, Fault.imageOf, Refusals.refused?, Table.rowOf}
 use Rattle.rules.specs.Transfer.{TransferCall, GetFwInfo, Start, Send, Finish, Query, receivedBytes}
 use Rattle.rules.specs.{Module.{Call, OnMask, OnThresholds, OnTransfer, OnSecurity, OnNothing, Event, call, tick, power, callIn}, History.{end, afterExchange}}
 use Rattle.rules.specs.Transfers.{Answer, machine, Exchange, History, Kind, Started, Sent, Finished, Other, callKind, kindOf}
@@ -134,8 +134,8 @@ tick-good s version r (good found p l i e) =
     let same : Good found ≡ Good version = sym i ∙ r .good-image in
     let v : found ≡ version = cc in
     (ap (λ (t : Transfer). t .phase) e, ap (λ (t : Transfer). t .staged) e ∙ v)
-tick-good s version r (bad p l i e) =
-    let same : Bad ≡ Good version = sym i ∙ r .good-image in
+tick-good s version r (bad {reason} {k} p l i e) =
+    let same : Bad reason k ≡ Good version = sym i ∙ r .good-image in
     let z : _≡_ {A = ℕ} 0 1 = cc in absurd (omega arith)
 
 pub ripe-stages : (m : Module) (version : ℕ) → Sound m → Ripe (partOf m) version → Stages m tick version

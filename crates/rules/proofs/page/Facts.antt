@@ -5,10 +5,10 @@ use mathlib.Core.{Path.{_≡_, refl, sym, _∙_, ap}, Bool.{Bool, true, false, n
 use lib.ListN.{length}
 use borrow.Author.Tests.{ltb-true, ltb-false, eqb-true, eqb-false, not-false}
 use Rattle.rules.specs.{Tests.{if_then_else_, _=?_, _<?_}, Numbers.{areaSize, longestPiece, lastContext}, Record.{_is_, phaseNumber, current, given}}
-use Rattle.rules.specs.{Refusals.{verdict, statusBytes}, With.{_with-ticks_, _with-phase_, _with-staged_}, Image.imageOf}
+use Rattle.rules.specs.{Refusals.{verdict, statusBytes}, With.{_with-ticks_, _with-phase_, _with-staged_, _with-reason_, _with-faulty_}, Fault.{reasonNumber, imageOf}}
 use Rattle.rules.specs.{Transfer.{TransferCall, Start, Send, Finish, Query, transferChecks, transferAnswer, tickChange, receivedBytes}, Transfers.Answer}
 use Rattle.rules.specs.{Demand3.remains, declared.Refusal.the-variants.{R, Status}, declared.Verdict.Verdict, declared.Verdict.the-variants.{Accepted, Refused}}
-use Rattle.rules.specs.{declared.Image.Image, declared.Image.the-variants.{Good, Bad}, declared.Phase.Phase}
+use Rattle.rules.specs.{declared.Reason.Reason, declared.Image.Image, declared.Image.the-variants.{Good, Bad}, declared.Phase.Phase}
 use Rattle.rules.specs.{declared.Phase.the-variants.{Idle, Receiving, Verifying, Staged, Failed}, declared.Transfer.Transfer}
 use Rattle.rules.proofs.{page.Choice.{or-false, and-true}, page.Passed.{AllFalse, passed}}
 use Rattle.rules.proofs.{page.Split.{TransferPart, front, answerBy, partVerdict, partChange, partAnswer, partNext}, page.Through.{taken, transfer-mild}}
@@ -125,7 +125,8 @@ pub data Tick (t : Transfer) (area : List ℕ) : Type 0 where
   counting : t .phase ≡ Verifying → 1 < t .ticks → tickChange t area ≡ t with-ticks (t .ticks - 1) → Tick t area
   good : (version : ℕ) → t .phase ≡ Verifying → t .ticks ≤ 1 → imageOf (receivedBytes t area) ≡ Good version
       → tickChange t area ≡ t with-ticks 0 with-phase Staged with-staged version → Tick t area
-  bad : t .phase ≡ Verifying → t .ticks ≤ 1 → imageOf (receivedBytes t area) ≡ Bad → tickChange t area ≡ t with-ticks 0 with-phase Failed → Tick t area
+  bad : {reason : Reason} {k : ℕ} → t .phase ≡ Verifying → t .ticks ≤ 1 → imageOf (receivedBytes t area) ≡ Bad reason k
+      → tickChange t area ≡ t with-ticks 0 with-phase Failed with-reason (reasonNumber reason) with-faulty k → Tick t area
 
 pub tick-case : (t : Transfer) (area : List ℕ) → Tick t area
 tick-case t area = at (t .phase is Verifying) refl (1 <? t .ticks) refl (imageOf (receivedBytes t area)) refl
@@ -134,4 +135,4 @@ tick-case t area = at (t .phase is Verifying) refl (1 <? t .ticks) refl (imageOf
     at false e c f i g = calm e (rw e)
     at true e true f i g = counting (is-phase (t .phase) Verifying e) (ltb-true 1 (t .ticks) f) (rw (e, f))
     at true e false f (Good version) g = good version (is-phase (t .phase) Verifying e) (ltb-false 1 (t .ticks) f) g (rw (e, f, g))
-    at true e false f Bad g = bad (is-phase (t .phase) Verifying e) (ltb-false 1 (t .ticks) f) g (rw (e, f, g))
+    at true e false f (Bad reason k) g = bad (is-phase (t .phase) Verifying e) (ltb-false 1 (t .ticks) f) g (rw (e, f, g))

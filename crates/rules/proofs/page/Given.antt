@@ -5,7 +5,7 @@ use native.Mathlib.Omega.{arith}
 use mathlib.Core.{Path.{_≡_, refl, sym, _∙_, ap}, Logic.{inl, inr}, Bool.true, List.{List, [], _∷_, map}}
 use lib.ListN.{length, replicate}
 use Rattle.rules.specs.{Bytes.{le, zeros, zeros?, same?}, Numbers.{areaSize, lastContext}}
-use Rattle.rules.specs.With.{_with-phase_, _with-contexts_, _with-enabled_, _with-frozen_, _with-transfer_, _with-security_}
+use Rattle.rules.specs.With.{_with-phase_, _with-contexts_, _with-reason_, _with-enabled_, _with-frozen_, _with-transfer_, _with-security_}
 use Rattle.rules.specs.{Record.{fresh, possible, possibleTransfer, possibleSecurity, possibleThresholds, Module, moduleOf}, Refusals.verdict, Table.{rowOf, fits?}}
 use Rattle.rules.specs.{Module.callResult, Demand1.{refusalNumbers, Among, GivenBySome}, declared.Phase.Phase}
 use Rattle.rules.specs.{declared.Phase.the-variants.{Idle, Receiving, Staged, Failed}, declared.Refusal.Refusal, declared.Verdict.Verdict}
@@ -21,9 +21,12 @@ record Witness : Type 0 where
 abbrev verdictOn : Witness → Verdict
 verdictOn w = callResult (w .found) 2 (w .index) (w .request) (w .answer) .reply .verdict
 
--- a module in this phase, with so many contexts given; one with this security; and a call with room for its answer
+-- a module in this phase, with so many contexts given; one that failed, for the size; one with this security; and a call with room for its answer
 abbrev inPhase : Phase → (contexts : ℕ) → Module
 inPhase phase contexts = moduleOf (fresh with-transfer (fresh .transfer with-phase phase with-contexts contexts)) (zeros areaSize)
+
+abbrev failed : Module
+failed = moduleOf (fresh with-transfer (fresh .transfer with-phase Failed with-contexts 1 with-reason 1)) (zeros areaSize)
 
 abbrev secured : Security → Module
 secured s = moduleOf (fresh with-security s) (zeros areaSize)
@@ -41,7 +44,7 @@ witnesses =
     ∷ asked (inPhase Staged 1) 16 (le 4 1)
     ∷ asked (inPhase Receiving 1) 13 []
     ∷ asked (inPhase Staged 1) 13 []
-    ∷ asked (inPhase Failed 1) 16 (le 4 1)
+    ∷ asked failed 16 (le 4 1)
     ∷ asked (inPhase Receiving 1) 16 (le 4 1)
     ∷ asked (inPhase Idle lastContext) 13 []
     ∷ asked (secured (fresh .security with-frozen true)) 23 []

@@ -7,10 +7,12 @@ use lib.{Dec.{leb, eqb}, ListN.{length, take, drop, length-append, length-drop, 
 use lib.Seq.{take-append-le, drop-append-le, drop-drop, drop-at, take-at, take-all, length-take-le}
 use borrow.Author.Tests.{leb-true, leb-false, eqb-true, eqb-false, eq-eqb, ne-eqb, le-leb, lt-ltb, le-ltb}
 use Rattle.rules.specs.{Tests.{if_then_else_, _<?_, _=?_}, Bytes.{zeros, AreBytes}}
-use Rattle.rules.specs.Image.{mostRecords, payloadField, bytesIn, recordsOf, goodRecord, goodRecords, goodSize, versionOf, goodImage, imageOf}
+use Rattle.rules.specs.Image.{mostRecords, payloadField, bytesIn, recordsOf, goodRecord, goodRecords, goodSize, versionOf, goodImage}
+use Rattle.rules.specs.Fault.{imageOf}
 use Rattle.rules.specs.Made.{partsIn, partsOf, firstPart, madeRecord, madeRecords, madeImage, carried, payloadOf, MadeWell, RequestT02}
-use Rattle.rules.specs.declared.{Image.Image, Image.the-variants.{Good, Bad}}
+use Rattle.rules.specs.declared.Image.the-variants.{Good}
 use Rattle.rules.proofs.page.Choice.{and-true}
+use Rattle.rules.proofs.page.Faults.{is-good}
 use Rattle.rules.proofs.page.Le.{take-bytes, drop-bytes, append-bytes, zeros-bytes}
 use Rattle.rules.proofs.page.Records.{made-long, made-good, made-bytes, version-in, part-in, record-again}
 
@@ -119,10 +121,10 @@ version-of-made m n version payload fits =
 -- and so the image
 image-good : (n version : ℕ) (payload : List ℕ) → 1 ≤ n → n ≤ 128 → 1 ≤ version → version < 256 ^ 8
     → imageOf (madeRecords n 0 n version payload) ≡ Good version
-unfolding imageOf goodImage
+unfolding goodImage
 image-good zero version payload some few one fits = absurd (omega (arith, some))
 image-good (suc m) version payload some few one fits =
-    rw (size, version-is, ne-eqb version 0 (λ e. omega arith), records) refl
+    is-good image version .1 (rw (size, version-is, ne-eqb version 0 (λ e. omega arith), records) refl, sym version-is)
   where
     image : List ℕ
     image = madeRecords (suc m) 0 (suc m) version payload
@@ -293,26 +295,15 @@ pub record Known (image : List ℕ) (version : ℕ) : Type 0 where
   pub good : goodRecords (recordsOf image) 0 (recordsOf image) version image ≡ true
 
 pub known : (image : List ℕ) (version : ℕ) → imageOf image ≡ Good version → Known image version
-unfolding imageOf goodImage
-known image version e = go (goodImage image) refl e
-  where
-    own : Image → ℕ
-    own (Good v) = v
-    own Bad = 0
-
-    is-good : Image → Bool
-    is-good (Good v) = true
-    is-good Bad = false
-
-    go : (good : Bool) → goodImage image ≡ good → (if good then Good (versionOf image) else Bad) ≡ Good version → Known image version
-    go false g f = absurd (true≢false (sym (ap is-good f)))
-    go true g f =
-        let records = and-true (goodSize image && not (versionOf image =? 0)) (goodRecords (recordsOf image) 0 (recordsOf image) (versionOf image) image) g in
-        let size = and-true (goodSize image) (not (versionOf image =? 0)) (records .0) in
-        record {
-          sized = good-size image (size .0);
-          good = ap (λ (v : ℕ). goodRecords (recordsOf image) 0 (recordsOf image) v image) (sym (ap own f)) ∙ records .1;
-        }
+unfolding goodImage
+known image version e =
+    let good = is-good image version .0 e in
+    let records = and-true (goodSize image && not (versionOf image =? 0)) (goodRecords (recordsOf image) 0 (recordsOf image) (versionOf image) image) (good .0) in
+    let size = and-true (goodSize image) (not (versionOf image =? 0)) (records .0) in
+    record {
+      sized = good-size image (size .0);
+      good = ap (λ (v : ℕ). goodRecords (recordsOf image) 0 (recordsOf image) v image) (good .1) ∙ records .1;
+    }
 
 made-again : (image : List ℕ) (version : ℕ) → AreBytes image → imageOf image ≡ Good version → madeImage (payloadOf image) version ≡ image
 unfolding madeImage payloadOf

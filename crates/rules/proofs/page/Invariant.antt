@@ -3,11 +3,11 @@
 -- Assumes nothing.
 use Prim.Native.Nat.{ℕ, _-_, _<_}
 use mathlib.Core.{Path.{_≡_, refl, sym, subst}, Bool.Bool}
-use Rattle.rules.specs.{With.{_with-ticks_, _with-phase_, _with-staged_}, Record.Module, Transfer.TransferCall}
+use Rattle.rules.specs.{With.{_with-ticks_, _with-phase_, _with-staged_, _with-reason_, _with-faulty_}, Fault.reasonNumber, Record.Module, Transfer.{TransferCall, receivedBytes}}
 use Rattle.rules.specs.{declared.Phase.the-variants.{Verifying, Staged, Failed}, declared.Transfer.Transfer, declared.Verdict.Verdict}
 use Rattle.rules.specs.declared.Verdict.the-variants.{Accepted, Refused}
 use Rattle.rules.proofs.page.Split.{TransferPart, _with-part_, partOf, partVerdict, partChange, partAfter, partTick, partPower, Act, Transfers, Others, Ticks, Powers, nexts}
-use Rattle.rules.proofs.page.Facts.{Tick, calm, counting, good, bad, tick-case}
+use Rattle.rules.proofs.{page.Faults.{Kept, bad-kept}, page.Facts.{Tick, calm, counting, good, bad, tick-case}}
 
 -- what holds of a part and of its change by an accepted call holds after the call
 pub part-when : (P : TransferPart → Type 0) (v : Verdict) (s : TransferPart) (x : TransferCall) → P s → (v ≡ Accepted → P (partChange s x)) → P (partAfter v s x)
@@ -18,7 +18,8 @@ part-when P (Refused refusal) s x w f = w
 pub by-tick : (P : TransferPart → Type 0) (s : TransferPart) → P s
     → (s .transfer .phase ≡ Verifying → 1 < s .transfer .ticks → P (s with-part (s .transfer with-ticks (s .transfer .ticks - 1))))
     → ((version : ℕ) → s .transfer .phase ≡ Verifying → P (s with-part (s .transfer with-ticks 0 with-phase Staged with-staged version)))
-    → (s .transfer .phase ≡ Verifying → P (s with-part (s .transfer with-ticks 0 with-phase Failed)))
+    → ((reason faulty : ℕ) → Kept reason faulty → s .transfer .phase ≡ Verifying
+    → P (s with-part (s .transfer with-ticks 0 with-phase Failed with-reason reason with-faulty faulty)))
     → P (partTick s)
 by-tick P s as-it-is one-less staged failed = go (tick-case (s .transfer) (s .area))
   where
@@ -26,7 +27,7 @@ by-tick P s as-it-is one-less staged failed = go (tick-case (s .transfer) (s .ar
     go (calm n e) = subst (λ (t : Transfer). P (s with-part t)) (sym e) as-it-is
     go (counting p l e) = subst (λ (t : Transfer). P (s with-part t)) (sym e) (one-less p l)
     go (good version p l i e) = subst (λ (t : Transfer). P (s with-part t)) (sym e) (staged version p)
-    go (bad p l i e) = subst (λ (t : Transfer). P (s with-part t)) (sym e) (failed p)
+    go (bad {reason} {k} p l i e) = subst (λ (t : Transfer). P (s with-part t)) (sym e) (failed (reasonNumber reason) k (bad-kept (receivedBytes (s .transfer) (s .area)) reason k i) p)
 
 pub record Invariant (P : TransferPart → Type 0) : Type 0 where
   pub change : (s : TransferPart) (a b : Bool) (x : TransferCall) → partVerdict s a b x ≡ Accepted → P s → P (partChange s x)

@@ -7,14 +7,14 @@ use lib.ListN.{length, length-append, length-take, length-drop}
 use borrow.Author.Tests.{ltb-true, ltb-false, leb-true, lt-ltb, le-leb, eqb-true, eqb-false, eq-eqb, not-true, not-false}
 use Rattle.rules.specs.{Tests.{if_then_else_, _=?_, _<?_, _≤?_, _implies_, _unless_}, Bytes.zeros?, Numbers.{areaSize, verification, attemptLimit, lastContext}}
 use Rattle.rules.specs.With.{_with-ticks_, _with-phase_, _with-received_}
-use Rattle.rules.specs.{Record.{_is_, possible, possibleTransfer, possibleSecurity, possibleThresholds, Module, current, given}, Refusals.{Check, _gives_, verdict}}
+use Rattle.rules.specs.{Record.{_is_, possible, possibleNumbers, possibleFault, possibleTransfer, possibleSecurity, possibleThresholds, Module, current, given}, Refusals.{Check, _gives_, verdict}}
 use Rattle.rules.specs.{Thresholds.{GetThreshold, SetThreshold}, Transfer.{TransferCall, GetFwInfo, Start, Send, Finish, Query}}
 use Rattle.rules.specs.{Security.{SecurityCall, GetSecurityState, SetPassphrase, Disable, Unlock, Freeze, securityChecks, wrong}, declared.Refusal.Refusal}
 use Rattle.rules.specs.{declared.Refusal.the-variants.{R, Status}, declared.Verdict.the-variants.{Accepted, Refused}, declared.Phase.Phase}
 use Rattle.rules.specs.{declared.Phase.the-variants.{Idle, Receiving, Verifying, Staged, Failed}, declared.Transfer.Transfer, declared.Security.Security}
-use Rattle.rules.proofs.page.Choice.{or-false, and-true, and-6, if-both}
+use Rattle.rules.proofs.page.Choice.{or-false, and-true, and-3, and-6, if-both}
 use Rattle.rules.proofs.page.Split.{TransferPart, Rest, partOf, restOf, RestCall, Masks, Limits, Locks, Nothing, Act, Transfers, Others, Ticks, Powers, partVerdict, partChange, partTick, restAfter, restChange, restChecks, restNext, restPower, nexts, givenIn}
-use Rattle.rules.proofs.{page.Through.mild, page.Facts.{never, start-ok, send-ok, finish-ok}, page.Invariant.{by-tick, Invariant, keeps-next}}
+use Rattle.rules.proofs.{page.Through.mild, page.Faults.Kept, page.Facts.{never, start-ok, send-ok, finish-ok}, page.Invariant.{by-tick, Invariant, keeps-next}}
 
 -- the transfer's part, phase by phase
 abbrev pub PhaseOk : Phase → Transfer → Type 0
@@ -24,13 +24,22 @@ PhaseOk Verifying t = (1 ≤ current t) × (1 ≤ t .ticks) × (t .ticks ≤ ver
 PhaseOk Staged t = (1 ≤ current t) × (t .ticks ≡ 0)
 PhaseOk Failed t = (1 ≤ current t) × (t .ticks ≡ 0) × (t .staged ≡ 0)
 
+-- its fault, phase by phase
+abbrev pub FaultOk : Phase → Transfer → Type 0
+FaultOk Idle t = (t .reason ≡ 0) × (t .faulty ≡ 0)
+FaultOk Receiving t = (t .reason ≡ 0) × (t .faulty ≡ 0)
+FaultOk Verifying t = (t .reason ≡ 0) × (t .faulty ≡ 0)
+FaultOk Staged t = (t .reason ≡ 0) × (t .faulty ≡ 0)
+FaultOk Failed t = Kept (t .reason) (t .faulty)
+
 pub record PartOk (s : TransferPart) : Type 0 where
   pub within : s .transfer .received ≤ areaSize
+  pub fault : FaultOk (s .transfer .phase) (s .transfer)
   pub in-phase : PhaseOk (s .transfer .phase) (s .transfer)
   pub size : length (s .area) ≡ areaSize
 
 -- the and-6 tests of a possible record's transfer part
-abbrev test : Phase → Transfer → Bool
+abbrev pub test : Phase → Transfer → Bool
 test p t =
     (1 ≤? current t unless p is Idle)
     && (t .received ≤? areaSize)
@@ -39,7 +48,7 @@ test p t =
     && (t .ticks =? 0 unless p is Verifying)
     && (t .staged =? 0 unless p is Staged)
 
-tests : (p : Phase) (t : Transfer) → test p t ≡ true → (t .received ≤ areaSize) × PhaseOk p t
+pub tests : (p : Phase) (t : Transfer) → test p t ≡ true → (t .received ≤ areaSize) × PhaseOk p t
 tests p t e = at p (and-6 (1 ≤? current t unless p is Idle) (t .received ≤? areaSize) (p is Idle implies t .received =? 0) (p is Verifying implies 1 ≤? t .ticks && t .ticks ≤? verification)
     (t .ticks =? 0 unless p is Verifying) (t .staged =? 0 unless p is Staged) e)
   where
@@ -54,13 +63,40 @@ tests p t e = at p (and-6 (1 ≤? current t unless p is Idle) (t .received ≤? 
     at Staged h = (leb-true (t .received) areaSize (h .1), (leb-true 1 (current t) (h .0), eqb-true (t .ticks) 0 (h .4)))
     at Failed h = (leb-true (t .received) areaSize (h .1), (leb-true 1 (current t) (h .0), eqb-true (t .ticks) 0 (h .4), eqb-true (t .staged) 0 (h .5)))
 
-tested : (p : Phase) (t : Transfer) → t .received ≤ areaSize → PhaseOk p t → test p t ≡ true
+pub tested : (p : Phase) (t : Transfer) → t .received ≤ areaSize → PhaseOk p t → test p t ≡ true
 tested Idle t r h = rw (le-leb (t .received) areaSize r, eq-eqb (t .received) 0 (h .0), eq-eqb (t .ticks) 0 (h .1), eq-eqb (t .staged) 0 (h .2))
 tested Receiving t r h = rw (le-leb (t .received) areaSize r, le-leb 1 (current t) (h .0), eq-eqb (t .ticks) 0 (h .1), eq-eqb (t .staged) 0 (h .2))
 tested Verifying t r h =
     rw (le-leb (t .received) areaSize r, le-leb 1 (current t) (h .0), le-leb 1 (t .ticks) (h .1), le-leb (t .ticks) verification (h .2), eq-eqb (t .staged) 0 (h .3))
 tested Staged t r h = rw (le-leb (t .received) areaSize r, le-leb 1 (current t) (h .0), eq-eqb (t .ticks) 0 (h .1))
 tested Failed t r h = rw (le-leb (t .received) areaSize r, le-leb 1 (current t) (h .0), eq-eqb (t .ticks) 0 (h .1), eq-eqb (t .staged) 0 (h .2))
+
+-- the tests of its fault
+abbrev pub faultTest : Phase → Transfer → Bool
+faultTest p t =
+    (p is Failed implies (1 ≤? t .reason && t .reason ≤? 5 && t .faulty ≤? 127)) && ((t .reason =? 0 && t .faulty =? 0) unless p is Failed)
+
+pub fault-tests : (p : Phase) (t : Transfer) → faultTest p t ≡ true → FaultOk p t
+fault-tests p t e = at p (and-true (p is Failed implies (1 ≤? t .reason && t .reason ≤? 5 && t .faulty ≤? 127)) ((t .reason =? 0 && t .faulty =? 0) unless p is Failed) e)
+  where
+    zero : (t .reason =? 0 && t .faulty =? 0) ≡ true → (t .reason ≡ 0) × (t .faulty ≡ 0)
+    zero z = let h = and-true (t .reason =? 0) (t .faulty =? 0) z in (eqb-true (t .reason) 0 (h .0), eqb-true (t .faulty) 0 (h .1))
+
+    at : (q : Phase) → ((q is Failed implies (1 ≤? t .reason && t .reason ≤? 5 && t .faulty ≤? 127)) ≡ true) × (((t .reason =? 0 && t .faulty =? 0) unless q is Failed) ≡ true) → FaultOk q t
+    at Idle h = zero (h .1)
+    at Receiving h = zero (h .1)
+    at Verifying h = zero (h .1)
+    at Staged h = zero (h .1)
+    at Failed h =
+        let k = and-3 (1 ≤? t .reason) (t .reason ≤? 5) (t .faulty ≤? 127) (h .0) in
+        record { some-reason = leb-true 1 (t .reason) (k .0); last-reason = leb-true (t .reason) 5 (k .1); last-record = leb-true (t .faulty) 127 (k .2) }
+
+pub fault-tested : (p : Phase) (t : Transfer) → FaultOk p t → faultTest p t ≡ true
+fault-tested Idle t h = rw (eq-eqb (t .reason) 0 (h .0), eq-eqb (t .faulty) 0 (h .1))
+fault-tested Receiving t h = rw (eq-eqb (t .reason) 0 (h .0), eq-eqb (t .faulty) 0 (h .1))
+fault-tested Verifying t h = rw (eq-eqb (t .reason) 0 (h .0), eq-eqb (t .faulty) 0 (h .1))
+fault-tested Staged t h = rw (eq-eqb (t .reason) 0 (h .0), eq-eqb (t .faulty) 0 (h .1))
+fault-tested Failed t h = rw (le-leb 1 (t .reason) (h .some-reason), le-leb (t .reason) 5 (h .last-reason), le-leb (t .faulty) 127 (h .last-record))
 
 -- Start comes from Idle or Failed
 start-from : (p : Phase) (t : Transfer) → PhaseOk p t → (p is Receiving) ≡ false → (p is Verifying) ≡ false → (p is Staged) ≡ false → (t .ticks ≡ 0) × (t .staged ≡ 0)
@@ -73,17 +109,22 @@ start-from Failed t h a b c = (h .1, h .2)
 at-phase : (p : Phase) (t : Transfer) → t .phase ≡ p → PhaseOk (t .phase) t → PhaseOk p t
 at-phase p t e h = subst (λ (q : Phase). PhaseOk q t) e h
 
+fault-at : (p : Phase) (t : Transfer) → t .phase ≡ p → FaultOk (t .phase) t → FaultOk p t
+fault-at p t e h = subst (λ (q : Phase). FaultOk q t) e h
+
 part-change : (s : TransferPart) (a b : Bool) (x : TransferCall) → partVerdict s a b x ≡ Accepted → PartOk s → PartOk (partChange s x)
 part-change s a b GetFwInfo v w = w
 part-change s a b Start v w =
     let k = start-ok s a b v in
     let q = start-from (s .transfer .phase) (s .transfer) (w .in-phase) (k .not-receiving) (k .not-verifying) (k .not-staged) in
-    record { within = omega arith; in-phase = (omega arith, q .0, q .1); size = w .size }
+    record { within = omega arith; fault = (refl, refl); in-phase = (omega arith, q .0, q .1); size = w .size }
 part-change s a b (Send context offset size piece) v w =
     let k = send-ok s a b context offset size piece v in
     let q = at-phase Receiving (s .transfer) (k .at) (w .in-phase) in
     record {
       within = omega (arith, k .inside, k .here);
+      fault =
+          subst (λ (z : Phase). FaultOk z (partChange s (Send context offset size piece) .transfer)) (sym (k .at)) (fault-at Receiving (s .transfer) (k .at) (w .fault));
       in-phase = subst (λ (z : Phase). PhaseOk z (partChange s (Send context offset size piece) .transfer)) (sym (k .at)) q;
       size = simp (length-append, length-take, length-drop) (omega (arith, w .size, k .inside, k .size-is));
     }
@@ -92,9 +133,12 @@ part-change s a b (Finish flag context) v w = go (flag =? 0)
     q : PhaseOk Receiving (s .transfer)
     q = at-phase Receiving (s .transfer) (finish-ok s a b flag context v .at) (w .in-phase)
 
+    no-fault : FaultOk Receiving (s .transfer)
+    no-fault = fault-at Receiving (s .transfer) (finish-ok s a b flag context v .at) (w .fault)
+
     go : (c : Bool) → PartOk (record { transfer = if c then s .transfer with-phase Verifying with-ticks verification else (s .transfer with-phase Idle with-received 0); area = s .area })
-    go true = record { within = w .within; in-phase = (q .0, omega arith, omega arith, q .2); size = w .size }
-    go false = record { within = omega arith; in-phase = (refl, q .1, q .2); size = w .size }
+    go true = record { within = w .within; fault = no-fault; in-phase = (q .0, omega arith, omega arith, q .2); size = w .size }
+    go false = record { within = omega arith; fault = no-fault; in-phase = (refl, q .1, q .2); size = w .size }
 part-change s a b (Query context) v w = w
 
 part-tick : (s : TransferPart) → PartOk s → PartOk (partTick s)
@@ -102,17 +146,21 @@ part-tick s w =
     by-tick PartOk s w
     (λ p l. record {
       within = w .within;
+      fault = subst (λ (z : Phase). FaultOk z (s .transfer with-ticks (s .transfer .ticks - 1))) (sym p) (no-fault p);
       in-phase = subst (λ (z : Phase). PhaseOk z (s .transfer with-ticks (s .transfer .ticks - 1))) (sym p) (h p .0, omega (arith, l), omega (arith, h p .2), h p .3);
       size = w .size;
     })
-    (λ version p. record { within = w .within; in-phase = (h p .0, refl); size = w .size })
-    (λ p. record { within = w .within; in-phase = (h p .0, refl, h p .3); size = w .size })
+    (λ version p. record { within = w .within; fault = no-fault p; in-phase = (h p .0, refl); size = w .size })
+    (λ reason faulty k p. record { within = w .within; fault = k; in-phase = (h p .0, refl, h p .3); size = w .size })
   where
     h : s .transfer .phase ≡ Verifying → PhaseOk Verifying (s .transfer)
     h p = at-phase Verifying (s .transfer) p (w .in-phase)
 
+    no-fault : s .transfer .phase ≡ Verifying → FaultOk Verifying (s .transfer)
+    no-fault p = fault-at Verifying (s .transfer) p (w .fault)
+
 part-ok : Invariant PartOk
-part-ok = record { change = part-change; ticked = part-tick; powered = λ s w. record { within = omega arith; in-phase = (refl, refl, refl); size = w .size } }
+part-ok = record { change = part-change; ticked = part-tick; powered = λ s w. record { within = omega arith; fault = (refl, refl); in-phase = (refl, refl, refl); size = w .size } }
 
 -- the rest
 pub record RestOk (r : Rest) : Type 0 where
@@ -208,6 +256,7 @@ unfolding possible possibleTransfer possibleSecurity possibleThresholds
 ok-possible m w =
     rw (
       tested (m .device .transfer .phase) (m .device .transfer) (w .part .within) (w .part .in-phase),
+      fault-tested (m .device .transfer .phase) (m .device .transfer) (w .part .fault),
       w .rests .locks,
       w .rests .phrase,
       le-leb (m .device .security .attempts) attemptLimit (w .rests .tries),
@@ -221,12 +270,13 @@ possible-ok m e l =
     let d = m .device in
     let three = and-true (possibleTransfer (d .transfer) && possibleSecurity (d .security)) (possibleThresholds (d .thresholds)) e in
     let two = and-true (possibleTransfer (d .transfer)) (possibleSecurity (d .security)) (three .0) in
-    let t = tests (d .transfer .phase) (d .transfer) (two .0) in
+    let both = and-true (possibleNumbers (d .transfer)) (possibleFault (d .transfer)) (two .0) in
+    let t = tests (d .transfer .phase) (d .transfer) (both .0) in
     let q = and-true ((d .security .locked implies d .security .enabled) && (zeros? (d .security .passphrase) unless d .security .enabled)) (d .security .attempts ≤? attemptLimit) (two .1) in
     let p = and-true (d .security .locked implies d .security .enabled) (zeros? (d .security .passphrase) unless d .security .enabled) (q .0) in
     let h = and-true (d .thresholds .enable <? 8) (d .thresholds .spare ≤? 100) (three .1) in
     record {
-      part = record { within = t .0; in-phase = t .1; size = l };
+      part = record { within = t .0; fault = fault-tests (d .transfer .phase) (d .transfer) (both .1); in-phase = t .1; size = l };
       rests = record {
         locks = p .0;
         phrase = p .1;
@@ -241,7 +291,7 @@ abbrev pub Fit : TransferPart → Type 0
 Fit s = givenIn s ≤ lastContext
 
 pub fit : Invariant Fit
-fit = record { change = change; ticked = λ s w. by-tick Fit s w (λ p l. w) (λ version p. w) (λ p. w); powered = λ s w. w }
+fit = record { change = change; ticked = λ s w. by-tick Fit s w (λ p l. w) (λ version p. w) (λ reason faulty k p. w); powered = λ s w. w }
   where
     change : (s : TransferPart) (a b : Bool) (x : TransferCall) → partVerdict s a b x ≡ Accepted → Fit s → Fit (partChange s x)
     change s a b GetFwInfo v w = w
@@ -252,4 +302,4 @@ fit = record { change = change; ticked = λ s w. by-tick Fit s w (λ p l. w) (λ
 
 -- a tick gives out no context
 pub tick-given : (s : TransferPart) → givenIn (partTick s) ≡ givenIn s
-tick-given s = by-tick (λ (u : TransferPart). givenIn u ≡ givenIn s) s refl (λ p l. refl) (λ version p. refl) (λ p. refl)
+tick-given s = by-tick (λ (u : TransferPart). givenIn u ≡ givenIn s) s refl (λ p l. refl) (λ version p. refl) (λ reason faulty k p. refl)

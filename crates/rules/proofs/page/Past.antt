@@ -5,11 +5,11 @@ use Prim.Native.Nat.{ℕ, _≤_}
 use lib.ListN.{length}
 use borrow.Author.Tests.{eqb-true, leb-true, ltb-false, not-false}
 use Rattle.rules.specs.{Tests.{_≤?_, _=?_, _implies_, _unless_}, Bytes.zeros?, Numbers.{areaSize, answerRoom, verification, attemptLimit}}
-use Rattle.rules.specs.Record.{_is_, current, possible, possibleTransfer, possibleSecurity, possibleThresholds, Module}
+use Rattle.rules.specs.Record.{_is_, current, possible, possibleNumbers, possibleFault, possibleTransfer, possibleSecurity, possibleThresholds, Module}
 use Rattle.rules.specs.{Refusals.{Check, verdict, R1Check, eventChecks}, declared.Phase.the-variants.{Idle, Verifying, Staged}}
 use Rattle.rules.specs.{declared.Refusal.the-variants.{R, Status}, declared.Verdict.Verdict, declared.Verdict.the-variants.{Accepted, Refused}}
 use Rattle.rules.specs.declared.Device.{Device}
-use Rattle.rules.proofs.{page.Choice.{and-3, and-6}, page.Passed.{NotBy, past-rows}}
+use Rattle.rules.proofs.{page.Choice.{and-true, and-3, and-6}, page.Passed.{NotBy, past-rows}}
 
 -- the verdict is no R number
 abbrev pub NoR : Verdict → Type 0
@@ -63,4 +63,4 @@ received-most d e =
     leb-true (t .received) areaSize
     (and-6 (1 ≤? current t unless t .phase is Idle) (t .received ≤? areaSize) (t .phase is Idle implies t .received =? 0)
     (t .phase is Verifying implies 1 ≤? t .ticks && t .ticks ≤? verification) (t .ticks =? 0 unless t .phase is Verifying)
-    (t .staged =? 0 unless t .phase is Staged) (parts .0) .1)
+    (t .staged =? 0 unless t .phase is Staged) (and-true (possibleNumbers t) (possibleFault t) (parts .0) .0) .1)

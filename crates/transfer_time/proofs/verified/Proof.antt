@@ -4,17 +4,14 @@ use borrow.Author.Needs.{needs}
 use Rattle.transfer_time.proofs.verified.Statement.{statement}
 use Rattle.transfer_time.proofs.verified.Tie as tie
 
-enum-known-image : tie.Need-enum-known-image
-enum-known-image c = search needs
-
-enum-told : tie.Need-enum-told
-enum-told c = search needs
-
 returns : tie.Need-returns
 returns c = simp (c .before .image .given .1)
 
 returns-2 : tie.Need-returns-2
-returns-2 c = simp (c .enum-told .given .1)
+returns-2 c = simp (c .before .before .image2 .given .1, c .reason-number .ensures)
 
+-- by search: what each arm is told, reason-number-requires
 pub verified-spec : {M : Type 1} → statement M
-verified-spec = tie.close (tie.spec enum-known-image enum-told returns returns-2)
+verified-spec =
+    tie.close
+    (tie.spec (λ c. search needs) (λ c. search needs) (λ c κs. search needs) returns returns-2)

@@ -1,16 +1,16 @@
--- `image_check::good_records` meets its contract: past each good record those left are good where all are, and the first bad one decides.
+-- `image_check::first_bad` meets its contract: past each good record the first bad one of those left is that of the whole, and a bad one is it.
 use Prim.Native.Nat.{ℕ, _≤_, _-_, _*_}
 use mathlib.Core.Path.{_≡_, sym, _∙_, ap}
-use native.Mathlib.Nat.{sub-zero}
+use native.Mathlib.{Nat.sub-zero, Omega.arith}
 use lib.ListN.{drop}
 use borrow.{Author.Needs.needs, Author.Tests.{not-true, not-false}}
-use Rattle.rules.specs.Image.{goodRecords}
-use Rattle.image_check.proofs.{Laws.{good-record-goes-on, bad-record-decides, no-record-left}, good_records.Statement.statement}
-use Rattle.image_check.proofs.good_records.Tie as tie
+use Rattle.image_check.specs.Walk.{firstBad}
+use Rattle.image_check.proofs.{Laws.{good-record-goes-on, bad-record-decides, no-record-left}, first_bad.Statement.statement}
+use Rattle.image_check.proofs.first_bad.Tie as tie
 
 abbrev Inv-loop : tie.InvT-loop
 Inv-loop n version bytes i₀ i =
-    (i ≤ n) × (goodRecords (n - i) i n version (drop (i * 128) bytes) ≡ goodRecords n 0 n version bytes)
+    (i ≤ n) × (firstBad (n - i) i n version (drop (i * 128) bytes) ≡ firstBad n 0 n version bytes)
 
 abbrev μ-loop : tie.MeasureT-loop
 μ-loop n version bytes i₀ i = n - i
@@ -18,7 +18,7 @@ abbrev μ-loop : tie.MeasureT-loop
 loop-holds : tie.Need-loop-holds Inv-loop μ-loop
 loop-holds c =
     let a = c .before .args in
-    (search needs, ap (λ (left : ℕ). goodRecords left 0 a.n a.version a.bytes.now) (sub-zero a.n))
+    (search needs, ap (λ (left : ℕ). firstBad left 0 a.n a.version a.bytes.now) (sub-zero a.n))
 
 returns : tie.Need-returns Inv-loop μ-loop
 returns c =
@@ -33,11 +33,13 @@ loop-again c =
     (search needs, good-record-goes-on _ _ _ _ (k .before .loop .inv .1) (k .loop-test .taken) good)
 
 returns-2 : tie.Need-returns-2 Inv-loop μ-loop
-returns-2 c = no-record-left _ _ _ _ (c .before .loop .inv .1) (c .loop-test .left)
+returns-2 c =
+    let k = c .before in
+    no-record-left _ _ _ _ (k .loop .inv .1) (omega (arith, k .loop .inv .0, c .loop-test .left))
 
 -- by search: cast-at, mul-at, add-end, sub-good-record, part-good-record-start, part-good-record-end, good-record-requires, add-i, loop-less
-pub good-records-spec : {M : Type 1} → statement M
-good-records-spec =
+pub first-bad-spec : {M : Type 1} → statement M
+first-bad-spec =
     tie.close
     (tie.spec
     Inv-loop

@@ -1,0 +1,20 @@
+-- `device_possible::possible_before` meets its contract. It is the three parts of the record, each possible, and no fault.
+-- Assumes nothing.
+use Rattle.rules.specs.Adopt.{possibleBefore}
+use borrow.Author.Needs.{needs}
+use Rattle.device_possible.proofs.possible_before.Statement.{statement}
+use Rattle.device_possible.proofs.possible_before.Tie as tie
+
+returns : tie.Need-returns
+unfolding possibleBefore
+returns c = simp (c .before .before .possible-numbers .ensures, c .before .possible-security .ensures, c .possible-thresholds .ensures)
+
+-- by search: possible-numbers-requires, possible-security-requires, possible-thresholds-requires
+pub possible-before-spec : {M : Type 1} → statement M
+possible-before-spec =
+    tie.close
+    (tie.spec
+    (λ c κs. search needs)
+    (λ c κs. search needs)
+    (λ c κs. search needs)
+    returns)

@@ -1,0 +1,84 @@
+-- Document 02, T-03: a record that was possible before is possible still, but in Failed; and taken over it is possible.
+-- Assumes nothing.
+use mathlib.Core.{Path.{_≡_, refl, sym, _∙_, ap, subst}, Logic._↔_, Bool.{Bool, true, false, not, _&&_, _||_}}
+use native.Mathlib.Omega.{arith}
+use Rattle.rules.specs.{Tests.{if_then_else_, _=?_}, With.{_with-phase_, _with-received_}}
+use Rattle.rules.specs.{Record.{_is_, possible, possibleNumbers, possibleFault, possibleTransfer, possibleSecurity, possibleThresholds}, Adopt.{possibleBefore, adoptable, idleAgain, adopted, Adopting}}
+use Rattle.rules.specs.{declared.Phase.Phase, declared.Phase.the-variants.{Idle, Receiving, Verifying, Staged, Failed}, declared.Transfer.Transfer, declared.Device.Device}
+use borrow.Author.Tests.{eqb-true, lt-leb}
+use Rattle.rules.proofs.{page.Choice.{and-true, and-3}, page.Facts.{never, is-phase}, page.Keeps.{PhaseOk, tests, tested, faultTest, fault-tested}}
+
+-- what a record that was possible before has
+record Before (d : Device) : Type 0 where
+  numbers : possibleNumbers (d .transfer) ≡ true
+  no-reason : d .transfer .reason ≡ 0
+  no-record : d .transfer .faulty ≡ 0
+  secured : possibleSecurity (d .security) ≡ true
+  limited : possibleThresholds (d .thresholds) ≡ true
+
+before : (d : Device) → possibleBefore d ≡ true → Before d
+unfolding possibleBefore
+before d e =
+    let t = d .transfer in
+    let all = and-3 (possibleNumbers t && (t .reason =? 0 && t .faulty =? 0)) (possibleSecurity (d .security)) (possibleThresholds (d .thresholds)) e in
+    let both = and-true (possibleNumbers t) (t .reason =? 0 && t .faulty =? 0) (all .0) in
+    let none = and-true (t .reason =? 0) (t .faulty =? 0) (both .1) in
+    record { numbers = both .0; no-reason = eqb-true (t .reason) 0 (none .0); no-record = eqb-true (t .faulty) 0 (none .1); secured = all .1; limited = all .2 }
+
+-- it is possible where it has a fault that its phase allows: none, but in Failed, where it must have one
+by-fault : (d : Device) → Before d → possible d ≡ possibleFault (d .transfer)
+unfolding possible possibleTransfer
+by-fault d b = rw (b .numbers, b .secured, b .limited) (go (possibleFault (d .transfer)))
+  where
+    go : (x : Bool) → (x && true && true) ≡ x
+    go true = refl
+    go false = refl
+
+zero-fault : (p : Phase) (t : Transfer) → t .reason ≡ 0 → t .faulty ≡ 0 → (p is Failed) ≡ false → faultTest p t ≡ true
+zero-fault Idle t a b n = fault-tested Idle t (a, b)
+zero-fault Receiving t a b n = fault-tested Receiving t (a, b)
+zero-fault Verifying t a b n = fault-tested Verifying t (a, b)
+zero-fault Staged t a b n = fault-tested Staged t (a, b)
+zero-fault Failed t a b n = never n
+
+failed-fault : (p : Phase) (t : Transfer) → t .reason ≡ 0 → (p is Failed) ≡ true → faultTest p t ≡ false
+failed-fault Idle t a n = never (sym n)
+failed-fault Receiving t a n = never (sym n)
+failed-fault Verifying t a n = never (sym n)
+failed-fault Staged t a n = never (sym n)
+failed-fault Failed t a n = rw (lt-leb 1 (t .reason) (omega (arith, a)))
+
+-- so it is possible exactly outside Failed
+unless-failed : (d : Device) → Before d → (b : Bool) → (d .transfer .phase is Failed) ≡ b → possible d ≡ not b
+unless-failed d w false e = by-fault d w ∙ zero-fault (d .transfer .phase) (d .transfer) (w .no-reason) (w .no-record) e
+unless-failed d w true e = by-fault d w ∙ failed-fault (d .transfer .phase) (d .transfer) (w .no-reason) e
+
+failed-alone : (d : Device) → possibleBefore d ≡ true → (possible d ≡ false) ↔ (d .transfer .phase ≡ Failed)
+failed-alone d e =
+    (λ n. go (d .transfer .phase is Failed) refl n, λ f. unless-failed d (before d e) true (ap (λ (p : Phase). p is Failed) f))
+  where
+    go : (b : Bool) → (d .transfer .phase is Failed) ≡ b → possible d ≡ false → d .transfer .phase ≡ Failed
+    go true f n = is-phase (d .transfer .phase) Failed f
+    go false f n = never (sym (unless-failed d (before d e) false f) ∙ n)
+
+-- one in Failed, taken over
+idle-then : (d : Device) → Before d → d .transfer .phase ≡ Failed → possible (idleAgain d) ≡ true
+unfolding possible possibleTransfer
+idle-then d w f =
+    let k = tests (d .transfer .phase) (d .transfer) (w .numbers) in
+    let q : PhaseOk Failed (d .transfer) = subst (λ (p : Phase). PhaseOk p (d .transfer)) f (k .1) in
+    let t = d .transfer with-phase Idle with-received 0 in
+    rw (tested Idle t (omega arith) (refl, q .1, q .2), fault-tested Idle t (w .no-reason, w .no-record), w .secured, w .limited)
+
+possible-then : (d : Device) → adoptable d ≡ true → possible (adopted d) ≡ true
+possible-then d e = go (possible d) refl
+  where
+    go : (b : Bool) → possible d ≡ b → possible (adopted d) ≡ true
+    go true p = rw p p
+    go false p =
+        let was : possibleBefore d ≡ true = rw p at e in
+        rw p (idle-then d (before d was) (failed-alone d was .0 p))
+
+-- Of records kept before.
+pub adopting : Adopting
+adopting = record { possible-then = possible-then; failed-alone = failed-alone }

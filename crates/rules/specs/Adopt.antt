@@ -1,0 +1,31 @@
+-- Document 02, T-03, and the records that were kept before it: one in Failed has no reason, and so is possible no more. Such a record is taken over, once
+-- (docs/DECISIONS.md, r).
+-- Assumes nothing.
+use mathlib.Core.{Path._≡_, Logic._↔_, Bool.{Bool, true, false, _&&_, _||_}}
+use Rattle.rules.specs.Tests.{if_then_else_, _=?_}
+use Rattle.rules.specs.With.{_with-phase_, _with-received_, _with-transfer_}
+use Rattle.rules.specs.Record.{possible, possibleNumbers, possibleSecurity, possibleThresholds}
+use Rattle.rules.specs.declared.{Phase.the-variants.{Idle, Failed}, Device.Device}
+
+-- possible before T-03: as document 01 says, and with no fault kept
+unfoldable pub possibleBefore : Device → Bool
+possibleBefore d =
+    (possibleNumbers (d .transfer) && (d .transfer .reason =? 0 && d .transfer .faulty =? 0))
+    && possibleSecurity (d .security)
+    && possibleThresholds (d .thresholds)
+
+abbrev pub adoptable : Device → Bool
+adoptable d = possible d || possibleBefore d
+
+-- Idle with received 0, and nothing else changes
+abbrev pub idleAgain : Device → Device
+idleAgain d = d with-transfer (d .transfer with-phase Idle with-received 0)
+
+-- one that is possible stays as it is
+abbrev pub adopted : Device → Device
+adopted d = if possible d then d else idleAgain d
+
+-- What is taken over is possible; and of the records that were possible before, those in Failed alone are not possible as they are.
+pub record Adopting : Type 0 where
+  pub possible-then : (d : Device) → adoptable d ≡ true → possible (adopted d) ≡ true
+  pub failed-alone : (d : Device) → possibleBefore d ≡ true → (possible d ≡ false) ↔ (d .transfer .phase ≡ Failed)

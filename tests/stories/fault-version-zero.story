@@ -1,0 +1,8 @@
+title: the version is zero in all records: version 0
+
+start                           => 0
+send context 1 image zero-version version 81 records 4   => 0
+finish context 1                => 0
+tick 8
+query context 1                 => 7/3
+end failed 1 version 0
