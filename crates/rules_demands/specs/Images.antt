@@ -3,7 +3,7 @@
 use Prim.Native.Nat.{ℕ, _-_, _*_, _<_, _≤_}
 use mathlib.Core.{Path._≡_, List.{List, [], _∷_, _++_, map}}
 use lib.ListN.{length, replicate, getD}
-use Rattle.rules.specs.{Tests.{_<?_}, Image.{imageOf}}
+use Rattle.rules.specs.{Tests.{_<?_}, Fault.{imageOf}}
 use Rattle.rules.specs.Made.{partsOf, madeImage, payloadOf, makingOf, outputMade, readingOf, outputRead}
 use Rattle.rules.specs.declared.Making.the-variants.{Made, VersionZero, PayloadOver128Records, OutputTooShort}
 use Rattle.rules.specs.declared.ReadingBack.the-variants.{Read, NotGoodImage, OutputTooShort as ReadTooShort}
