@@ -4,6 +4,8 @@ ghost use lib.ListN.{length};
 ghost use Rattle.rules.specs.Bytes.{zeros?};
 ghost use Rattle.rules.specs.Adopt.{possibleBefore};
 ghost use Rattle.rules.specs.Record.{possible, possibleNumbers, possibleFault, possibleTransfer, possibleSecurity, possibleThresholds};
+use rules::AREA_SIZE;
+use rules::ATTEMPT_LIMIT;
 use rules::Device;
 use rules::Security;
 use rules::Thresholds;
@@ -18,7 +20,7 @@ fn possible_numbers(t: Transfer) -> bool
     let verifying = n == 2;
     let staged = n == 3;
     (idle | (1 <= t.contexts))
-        & (t.received <= 16384)
+        & (t.received <= AREA_SIZE as u32)
         & (!idle | (t.received == 0))
         & (!verifying | ((1 <= t.ticks) & (t.ticks <= 8)))
         & (verifying | (t.ticks == 0))
@@ -55,7 +57,7 @@ fn possible_security(s: Security) -> bool
     ensures { λ r. ⌜ r ≡ possibleSecurity s ⌝ }
 {
     let zero = all_zero(&s.passphrase);
-    (!s.locked | s.enabled) & (s.enabled | zero) & (s.attempts <= 10)
+    (!s.locked | s.enabled) & (s.enabled | zero) & (s.attempts <= ATTEMPT_LIMIT)
 }
 
 fn possible_thresholds(h: Thresholds) -> bool

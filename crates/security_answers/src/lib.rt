@@ -7,13 +7,14 @@ ghost use Rattle.rules.specs.Numbers.{answerRoom};
 ghost use Rattle.rules.specs.Bytes.{splice};
 ghost use Rattle.rules.specs.Refusals.{statusBytes};
 ghost use Rattle.rules.specs.Security.{stateByte, securityState};
+use rules::ATTEMPT_LIMIT;
 use rules::Security;
 
 // Bit 1 enabled, bit 2 locked, bit 3 frozen, bit 4 attempts at 10.
 fn state_byte(s: Security) -> u8
     ensures { λ r. ⌜ r ≡ stateByte s ⌝ }
 {
-    let limit = s.attempts == 10;
+    let limit = s.attempts == ATTEMPT_LIMIT;
     ((s.enabled as u8) << 1)
         | ((s.locked as u8) << 2)
         | ((s.frozen as u8) << 3)

@@ -3,6 +3,7 @@ ghost use mathlib.Core.Path.{_≡_};
 ghost use Rattle.rules.specs.Bytes.{same?};
 ghost use Rattle.rules.specs.Refusals.{verdict};
 ghost use Rattle.rules.specs.Security.{Freeze, passphraseChecks, setPassphraseChecks, disableChecks, unlockChecks, securityChecks};
+use rules::ATTEMPT_LIMIT;
 use rules::Refusal;
 use rules::Security;
 use rules::Verdict;
@@ -11,7 +12,7 @@ use rules::Verdict;
 fn judge_passphrase(s: Security, forbidden: bool, wrong: bool) -> Verdict
     ensures { λ r. ⌜ r ≡ verdict (passphraseChecks s forbidden wrong) ⌝ }
 {
-    let frozen_or_limit = s.frozen | (s.attempts == 10);
+    let frozen_or_limit = s.frozen | (s.attempts == ATTEMPT_LIMIT);
     if frozen_or_limit {
         return Verdict::Refused(Refusal::Status { status: 10, ext: 0 });
     }

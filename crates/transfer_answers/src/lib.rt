@@ -7,6 +7,8 @@ ghost use Rattle.rules.specs.Numbers.{answerRoom};
 ghost use Rattle.rules.specs.Bytes.{splice};
 ghost use Rattle.rules.specs.Refusals.{statusBytes};
 ghost use Rattle.rules.specs.Transfer.{fwInfo, startAnswer, queryAnswer};
+use rules::AREA_SIZE;
+use rules::LONGEST_PIECE;
 use rules::Transfer;
 
 pub fn put_info(t: Transfer, answer: &mut [u8])
@@ -14,8 +16,8 @@ pub fn put_info(t: Transfer, answer: &mut [u8])
     ensures { λ r. ⌜ now (answer .exit) ≡ splice 0 (statusBytes 0 0 ++ fwInfo t) (now (answer .entry)) ⌝ }
 {
     let mut bytes = [0u8; 44];
-    bytes_base::put_at(&mut bytes, 4, 4, 16384);
-    bytes_base::put_at(&mut bytes, 8, 4, 512);
+    bytes_base::put_at(&mut bytes, 4, 4, AREA_SIZE as u64);
+    bytes_base::put_at(&mut bytes, 8, 4, LONGEST_PIECE as u64);
     bytes_base::put_at(&mut bytes, 12, 4, 1000);
     bytes_base::put_at(&mut bytes, 16, 4, 8000);
     bytes_base::put_at(&mut bytes, 24, 4, 1);

@@ -4,6 +4,8 @@ ghost use Prim.Native.Nat.{_≤_};
 ghost use lib.ListN.{length};
 ghost use Rattle.rules.specs.Refusals.{verdict};
 ghost use Rattle.rules.specs.Transfer.{sendOf, transferChecks};
+use rules::AREA_SIZE;
+use rules::LONGEST_PIECE;
 use rules::Refusal;
 use rules::Transfer;
 use rules::Verdict;
@@ -20,7 +22,10 @@ pub fn judge_send(t: Transfer, request: &[u8]) -> Verdict
     let size = bytes_numbers::word(request, 8);
     let follows = request.len() - 12;
     let end = offset as u64 + size as u64;
-    let wrong = !(size as usize == follows) | (size == 0) | (512 < size) | (16384 < end);
+    let wrong = !(size as usize == follows)
+        | (size == 0)
+        | (LONGEST_PIECE < size)
+        | ((AREA_SIZE as u64) < end);
     let out_of_turn = !((n == 1) & (context == t.contexts));
     let elsewhere = !(offset == t.received);
     if wrong {

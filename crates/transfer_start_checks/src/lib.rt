@@ -2,6 +2,7 @@
 ghost use mathlib.Core.Path.{_≡_};
 ghost use Rattle.rules.specs.Refusals.{verdict};
 ghost use Rattle.rules.specs.Transfer.{startChecks};
+use rules::LAST_CONTEXT;
 use rules::Refusal;
 use rules::Transfer;
 use rules::Verdict;
@@ -13,7 +14,7 @@ pub fn judge_start(t: Transfer) -> Verdict
     let n = device_phase::phase_number(p);
     let running = (n == 1) | (n == 2);
     let staged = n == 3;
-    let given_out = t.contexts == 4294967295;
+    let given_out = t.contexts == LAST_CONTEXT;
     if running {
         return Verdict::Refused(Refusal::Status { status: 7, ext: 1 });
     }

@@ -10,5 +10,6 @@ phase-number-requires c κs = search needs
 returns : tie.Need-returns
 returns c = simp (c .before .before .before .before .before .before .before .phase-number .ensures)
 
+-- by search: cast-result
 pub possible-numbers-spec : {M : Type 1} → statement M
-possible-numbers-spec = tie.close (tie.spec phase-number-requires returns)
+possible-numbers-spec = tie.close (tie.spec phase-number-requires (λ c. search needs) returns)

@@ -19,7 +19,7 @@ returns c =
     (info-built (o .before .before .before .args .t) (o .put-at .ensures) (n .before .before .before .put-at2 .ensures) (n .put-at3 .ensures) (m .before .before .before .put-at4 .ensures)
     (m .put-at5 .ensures) (l .before .before .before .put-at6 .ensures) (l .put-at7 .ensures))
 
--- by search: slice-aggregate-put-at, put-at-requires, slice-aggregate-put-at-2, put-at-requires-2, slice-aggregate-put-at-3, put-at-requires-3,
+-- by search: slice-aggregate-put-at, put-at-requires, slice-aggregate-put-at-2, cast-put-at, put-at-requires-2, slice-aggregate-put-at-3, put-at-requires-3,
 -- slice-aggregate-put-at-4, put-at-requires-4, slice-aggregate-put-at-5, put-at-requires-5, slice-aggregate-put-at-6, put-at-requires-6,
 -- slice-aggregate-put-at-7, put-at-requires-7, slice-aggregate-copy, copy-requires, same-length
 pub put-info-spec : {M : Type 1} → statement M
@@ -28,6 +28,7 @@ put-info-spec =
     (tie.spec
     (λ c. search needs)
     (λ c κs. search needs)
+    (λ c. search needs)
     (λ c. search needs)
     (λ c κs. search needs)
     (λ c. search needs)
