@@ -3,11 +3,11 @@
 use mathlib.Core.{Path.{_≡_, sym, _∙_, ap}, List.{List, _++_, append-nil}}
 use Prim.Native.Nat.{ℕ, zero, suc, _≤_, _<_, _+_, _-_, _*_, _/_, _%_, _^_}
 use native.Mathlib.Omega.{arith}
-use lib.{ListN.{length, take, drop, length-drop}, Seq.{length-take-le, take-all}}
+use lib.{ListN.{length, take, drop, length-drop}, Seq.{length-take-le, take-all, take-at}}
 use borrow.Rule.Slice.PartMut.{putMid}
 use Rattle.rules.{specs.Bytes.{le, zeros, splice}, specs.Image.recordSum}
 use Rattle.rules.specs.Made.{partsOf, firstPart, unsummed, madeRecord, madeRecords, madeImage, carried}
-use Rattle.rules.{proofs.page.Records.{sum-of-front, unsummed-long, made-long}, proofs.page.Images.{cut, records-long, one-record-more, carried-long, one-part-more}}
+use Rattle.rules.{proofs.page.Le.length-le, proofs.page.Records.{sum-of-front, unsummed-long, made-long}, proofs.page.Images.{cut, records-long, one-record-more, carried-long, one-part-more}}
 use Rattle.bytes_base.proofs.Parts.{splice-splice, copy-whole, lent-as, rest}
 
 -- a part copied over an array of its size is that part
@@ -15,6 +15,12 @@ pub part-own : (part : List ℕ) {own : List ℕ} → length part ≡ 112 → ow
 part-own part whole e =
     let all : take 112 part ≡ part = take-all 112 part (omega (arith, whole)) in
     e ∙ ap (λ (l : List ℕ). splice 0 l (zeros 112)) all ∙ copy-whole part (zeros 112) (omega (arith, whole))
+
+-- a number's bytes in the front of an array are that number's
+pub field-own : (k number : ℕ) {own : List ℕ} → own ≡ splice 0 (le k number) (zeros 8) → take (k - 0) own ≡ le k number
+field-own k number {own} e =
+    let size : k - 0 ≡ k = omega arith in
+    ap (λ (j : ℕ). take j own) size ∙ ap (take k) e ∙ take-at (le k number) (drop (0 + length (le k number)) (zeros 8)) k (length-le k number)
 
 -- a record whose fields were written one after another
 pub record-written : (i n version : ℕ) (part old : List ℕ) {first second third fourth last : List ℕ} {sum : ℕ}
@@ -39,26 +45,24 @@ record-written i n version part old {fourth = fourth} {sum = sum} whole room e1 
     ∙ copy-whole (body ++ le 4 (recordSum body)) old (omega (arith, room, made-long i n version part whole))
 
 -- one record more, right behind those before it
-pub record-behind : (i n version : ℕ) (payload old : List ℕ) {out : List ℕ}
-    → out ≡ splice 0 (madeRecords i 0 n version payload) old
-    → splice (i * 128) (madeRecord i n version (firstPart (drop (i * 112) payload))) out ≡ splice 0 (madeRecords (i + 1) 0 n version payload) old
-record-behind i n version payload old e =
-    let done : List ℕ = madeRecords i 0 n version payload in
-    let made : List ℕ = madeRecord i n version (firstPart (drop (i * 112) payload)) in
-    let place : i * 128 ≡ 0 + length done = omega (arith, records-long i 0 n version payload) in
-    let number : 0 + i ≡ i = omega arith in
+pub record-behind : (i first n version : ℕ) (payload old : List ℕ) {out : List ℕ}
+    → out ≡ splice 0 (madeRecords i first n version payload) old
+    → splice (i * 128) (madeRecord (first + i) n version (firstPart (drop (i * 112) payload))) out ≡ splice 0 (madeRecords (i + 1) first n version payload) old
+record-behind i first n version payload old e =
+    let done : List ℕ = madeRecords i first n version payload in
+    let made : List ℕ = madeRecord (first + i) n version (firstPart (drop (i * 112) payload)) in
+    let place : i * 128 ≡ 0 + length done = omega (arith, records-long i first n version payload) in
     let next : suc i ≡ i + 1 = omega arith in
     (λ k. splice (place k) made (e k))
     ∙ splice-splice 0 done made old (omega arith)
-    ∙ ap (λ (k : ℕ). splice 0 (done ++ madeRecord k n version (firstPart (drop (i * 112) payload))) old) (sym number)
-    ∙ ap (λ (l : List ℕ). splice 0 l old) (sym (one-record-more i 0 n version payload))
-    ∙ ap (λ (k : ℕ). splice 0 (madeRecords k 0 n version payload) old) next
+    ∙ ap (λ (l : List ℕ). splice 0 l old) (sym (one-record-more i first n version payload))
+    ∙ ap (λ (k : ℕ). splice 0 (madeRecords k first n version payload) old) next
 
--- a part of the output that was lent for record i, and came back as one
-pub record-lent : (i n version : ℕ) (out part record′ : List ℕ) → i * 128 + 128 ≤ length out → length part ≡ 112 → record′ ≡ madeRecord i n version part
-    → putMid (i * 128) (i * 128 + 128 - i * 128) out record′ ≡ splice (i * 128) (madeRecord i n version part) out
-record-lent i n version out part record′ room whole e =
-    lent-as (i * 128) 128 out record′ room (madeRecord i n version part) (made-long i n version part whole) e
+-- a part of the output that was lent for a record at place i, and came back as one
+pub record-lent : (i number n version : ℕ) (out part record′ : List ℕ) → i * 128 + 128 ≤ length out → length part ≡ 112 → record′ ≡ madeRecord number n version part
+    → putMid (i * 128) (i * 128 + 128 - i * 128) out record′ ≡ splice (i * 128) (madeRecord number n version part) out
+record-lent i number n version out part record′ room whole e =
+    lent-as (i * 128) 128 out record′ room (madeRecord number n version part) (made-long number n version part whole) e
 
 -- a part that the payload fills is that part, with nothing to pad
 pub part-filled : (i : ℕ) (payload : List ℕ) → i * 112 + 112 ≤ length payload
@@ -68,6 +72,15 @@ part-filled i payload room =
     let long : length (take 112 left) ≡ 112 = length-take-le 112 left (rw length-drop (omega arith)) in
     let size : i * 112 + 112 - i * 112 ≡ 112 = omega arith in
     ap (λ (k : ℕ). take k left) size ∙ sym (append-nil (take 112 left)) ∙ ap (λ (k : ℕ). take 112 left ++ zeros (112 - k)) (sym long)
+
+-- one record over the whole of a record's bytes
+pub one-record : (number n version : ℕ) (part old : List ℕ) {record′ : List ℕ} → length part ≡ 112 → length old ≡ 128
+    → record′ ≡ splice 0 (madeRecords 1 number n version part) old → record′ ≡ madeRecord number n version part
+unfolding madeRecords
+one-record number n version part old whole room e =
+    let own : firstPart part ≡ part = sym (part-filled 0 part (omega (arith, whole))) ∙ take-all 112 part (omega (arith, whole)) in
+    e ∙ ap (λ (l : List ℕ). splice 0 l old) (append-nil (madeRecord number n version (firstPart part)) ∙ ap (madeRecord number n version) own)
+    ∙ copy-whole (madeRecord number n version part) old (omega (arith, room, made-long number n version part whole))
 
 drop-zeros : (k n : ℕ) → drop k (zeros n) ≡ zeros (n - k)
 drop-zeros zero n =
@@ -104,9 +117,11 @@ module _ (version : ℕ) (payload old : List ℕ) {n : ℕ} (count : n ≡ parts
       → splice (length payload / 112 * 128) (madeRecord (length payload / 112) n version (firstPart (drop (length payload / 112 * 112) payload))) out
       ≡ splice 0 (madeImage payload version) old
   unfolding madeImage
-  all-and-last more e =
+  all-and-last {out} more e =
       let all : length payload / 112 + 1 ≡ partsOf payload = omega (arith, count, more, cut payload .no-more, cut payload .some) in
-      record-behind (length payload / 112) n version payload old e ∙ (λ k. splice 0 (madeRecords (all k) 0 (count k) version payload) old)
+      let number : length payload / 112 ≡ 0 + length payload / 112 = omega arith in
+      ap (λ (k : ℕ). splice (length payload / 112 * 128) (madeRecord k n version (firstPart (drop (length payload / 112 * 112) payload))) out) number
+      ∙ record-behind (length payload / 112) 0 n version payload old e ∙ (λ k. splice 0 (madeRecords (all k) 0 (count k) version payload) old)
 
   pub all-full : {out : List ℕ} → n ≤ length payload / 112 → out ≡ splice 0 (madeRecords (length payload / 112) 0 n version payload) old
       → out ≡ splice 0 (madeImage payload version) old

@@ -2,7 +2,7 @@
 ghost use mathlib.Core.Path.{_≡_};
 ghost use Prim.Native.Nat.{_≤_, _+_, _*_, _/_};
 ghost use lib.ListN.{length, drop};
-ghost use Rattle.rules.specs.Bytes.{splice};
+ghost use Rattle.rules.specs.Bytes.{le, splice};
 ghost use Rattle.rules.specs.Made.{partsOf, firstPart, madeRecord, madeRecords, madeImage, carried, payloadOf};
 ghost use Rattle.rules.specs.Made.{makingOf, outputMade, readingOf, outputRead};
 use rules::COUNT_PLACE;
@@ -29,30 +29,47 @@ fn put_part(part: &[u8], output: &mut [u8], at: usize)
     bytes_base::copy_at(output, at, &own);
 }
 
+// Writes the k bytes of a number at a place. They too go through an array of their own, so that the compiler writes them at once.
+fn put_field(record: &mut [u8], at: usize, k: usize, number: u64)
+    requires { ⌜ (k ≤ 8) × (at + k ≤ length (now «record»)) ⌝ }
+    ensures { λ r. ⌜ now («record» .exit) ≡ splice at (le k number) (now («record» .entry)) ⌝ }
+{
+    let mut own = [0u8; 8];
+    bytes_base::put_at(&mut own, 0, k, number);
+    bytes_base::copy_at(record, at, &own[0..k]);
+}
+
 // Record i of n, over the whole of a record's bytes.
 fn put_record(i: usize, n: usize, version: u64, part: &[u8], record: &mut [u8])
     requires { ⌜ (length (now part) ≡ 112) × (length (now «record») ≡ 128) ⌝ }
     ensures { λ r. ⌜ now («record» .exit) ≡ madeRecord i n version (now (part .entry)) ⌝ }
 {
-    bytes_base::put_at(record, NUMBER_PLACE, 2, i as u64);
-    bytes_base::put_at(record, COUNT_PLACE, 2, n as u64);
-    bytes_base::put_at(record, VERSION_PLACE, 8, version);
+    put_field(record, NUMBER_PLACE, 2, i as u64);
+    put_field(record, COUNT_PLACE, 2, n as u64);
+    put_field(record, VERSION_PLACE, 8, version);
     put_part(part, record, PAYLOAD_PLACE);
     let sum = image_record::sum(record);
-    bytes_base::put_at(record, SUM_PLACE, 4, sum as u64);
+    put_field(record, SUM_PLACE, 4, sum as u64);
 }
 
-// The first so many records, whose parts the payload fills.
-fn put_records(full: usize, n: usize, version: u64, payload: &[u8], output: &mut [u8])
-    requires { ⌜ (full ≤ 128) × (full * 112 ≤ length (now payload)) × (full * 128 ≤ length (now output)) ⌝ }
-    ensures { λ r. ⌜ now (output .exit) ≡ splice 0 (madeRecords full 0 n version (now (payload .entry))) (now (output .entry)) ⌝ }
+// So many records from number `first` on, whose parts the payload fills, at the front of the output.
+fn put_records(
+    first: usize,
+    records: usize,
+    n: usize,
+    version: u64,
+    payload: &[u8],
+    output: &mut [u8],
+)
+    requires { ⌜ (first + records ≤ 129) × (records * 112 ≤ length (now payload)) × (records * 128 ≤ length (now output)) ⌝ }
+    ensures { λ r. ⌜ now (output .exit) ≡ splice 0 (madeRecords records first n version (now (payload .entry))) (now (output .entry)) ⌝ }
 {
     let mut i: usize = 0;
-    while i < full {
+    while i < records {
         let from = i * PART;
         let to = i * IMAGE_RECORD;
         put_record(
-            i,
+            first + i,
             n,
             version,
             &payload[from..from + PART],
@@ -71,7 +88,14 @@ fn put_last(full: usize, n: usize, version: u64, payload: &[u8], output: &mut [u
     let mut part = [0u8; PART];
     bytes_base::copy(&mut part, &payload[full * PART..]);
     let to = full * IMAGE_RECORD;
-    put_record(full, n, version, &part, &mut output[to..to + IMAGE_RECORD]);
+    put_records(
+        full,
+        1,
+        n,
+        version,
+        &part,
+        &mut output[to..to + IMAGE_RECORD],
+    );
 }
 
 // The whole image, at the front of the output.
@@ -80,7 +104,7 @@ fn put_image(n: usize, version: u64, payload: &[u8], output: &mut [u8])
     ensures { λ r. ⌜ now (output .exit) ≡ splice 0 (madeImage (now (payload .entry)) version) (now (output .entry)) ⌝ }
 {
     let full = payload.len() / PART;
-    put_records(full, n, version, payload, output);
+    put_records(0, full, n, version, payload, output);
     if full < n {
         put_last(full, n, version, payload, output);
     }

@@ -4,7 +4,7 @@ use Prim.Native.Nat.{ℕ, _*_}
 use mathlib.Core.{Path.{_∙_, ap}, List.List}
 use borrow.Author.Needs.{needs}
 use Rattle.rules.specs.{Bytes.splice, Made.madeRecord}
-use Rattle.image_make.proofs.{Laws.{record-lent, part-padded}, put_last.Statement.statement}
+use Rattle.image_make.proofs.{Laws.{record-lent, one-record, part-padded}, put_last.Statement.statement}
 use Rattle.image_make.proofs.put_last.Tie as tie
 
 returns : tie.Need-returns
@@ -13,11 +13,11 @@ returns c =
     let b = k .before .before .before .before .before in
     let a = b.args in
     let padded = part-padded (a.full * 112) a.payload.now (b .pre .0 .1) (b .pre .0 .2) (k .copy .ensures) in
-    record-lent a.full a.n a.version a.output.now _ _ (b .pre .1) (search needs) (c .before .before .put-record .ensures)
+    record-lent a.full a.full a.n a.version a.output.now _ _ (b .pre .1) (search needs) (one-record a.full a.n a.version _ _ (search needs) (search needs) (c .before .before .put-records .ensures))
     ∙ ap (λ (part : List ℕ). splice (a.full * 128) (madeRecord a.full a.n a.version part) a.output.now) padded
 
--- by search: slice-aggregate-copy, mul-copy, sub-copy, part-copy-start, part-copy-end, copy-requires, mul-to, slice-aggregate-put-record, add-put-record,
--- sub-put-record, part-put-record-start, part-put-record-end, put-record-requires, same-length
+-- by search: slice-aggregate-copy, mul-copy, sub-copy, part-copy-start, part-copy-end, copy-requires, mul-to, slice-aggregate-put-records, add-put-records,
+-- sub-put-records, part-put-records-start, part-put-records-end, put-records-requires, same-length
 pub put-last-spec : {M : Type 1} → statement M
 put-last-spec =
     tie.close

@@ -10,10 +10,10 @@ returns c =
     let b = k .before .before .before .before .before .before .before .before .before .before .before .before in
     let a = b.args in
     record-written a.i a.n a.version a.part.now a.record.now (b .pre .0) (b .pre .1)
-    (k .before .before .before .before .before .before .before .before .put-at .ensures) (k .before .before .before .before .put-at2 .ensures) (k .put-at3 .ensures) (c .before .before .before .before .before .before .before .before .put-part .ensures)
-    (c .before .before .before .before .sum .ensures) (c .before .before .put-at4 .ensures)
+    (k .before .before .before .before .before .before .before .before .put-field .ensures) (k .before .before .before .before .put-field2 .ensures) (k .put-field3 .ensures) (c .before .before .before .before .before .before .before .before .put-part .ensures)
+    (c .before .before .before .before .sum .ensures) (c .before .before .put-field4 .ensures)
 
--- by search: put-at-requires, put-at-requires-2, put-at-requires-3, put-part-requires, sum-requires, cast-put-at, put-at-requires-4, same-length
+-- by search: put-field-requires, put-field-requires-2, put-field-requires-3, put-part-requires, sum-requires, cast-put-field, put-field-requires-4, same-length
 pub put-record-spec : {M : Type 1} → statement M
 put-record-spec =
     tie.close

@@ -1,6 +1,6 @@
 -- `image_make::put_records` meets its contract: past each record the front of the output holds those so far, and the rest is as it came.
 -- Assumes nothing.
-use Prim.Native.Nat.{ℕ, _≤_, _-_, _*_}
+use Prim.Native.Nat.{ℕ, _≤_, _+_, _-_, _*_}
 use mathlib.Core.{Path.{_≡_, _∙_, ap}, List.List}
 use native.Mathlib.Omega.{arith}
 use lib.ListN.{length}
@@ -10,11 +10,11 @@ use Rattle.image_make.proofs.{Laws.{record-behind, record-lent, part-fi
 use Rattle.image_make.proofs.put_records.Tie as tie
 
 abbrev Inv-loop : tie.InvT-loop
-Inv-loop full n version payload output₀ i₀ output i =
-    (i ≤ full) × (length output ≡ length output₀) × (output ≡ splice 0 (madeRecords i 0 n version payload) output₀)
+Inv-loop first records n version payload output₀ i₀ output i =
+    (i ≤ records) × (length output ≡ length output₀) × (output ≡ splice 0 (madeRecords i first n version payload) output₀)
 
 abbrev μ-loop : tie.MeasureT-loop
-μ-loop full n version payload output₀ i₀ output i = full - i
+μ-loop first records n version payload output₀ i₀ output i = records - i
 
 loop-holds : tie.Need-loop-holds Inv-loop μ-loop
 unfolding madeRecords
@@ -28,17 +28,17 @@ loop-again c =
     let filled = part-filled i a.payload.now (omega arith) in (
       search needs,
       search needs,
-      record-lent i a.n a.version k.loop.output _ _ (omega arith) (search needs) (c .before .before .put-record .ensures)
-          ∙ ap (λ (part : List ℕ). splice (i * 128) (madeRecord i a.n a.version part) k.loop.output) filled
-          ∙ record-behind i a.n a.version a.payload.now a.output.now (k .loop .inv .2),
+      record-lent i (a.first + i) a.n a.version k.loop.output _ _ (omega arith) (search needs) (c .before .before .put-record .ensures)
+          ∙ ap (λ (part : List ℕ). splice (i * 128) (madeRecord (a.first + i) a.n a.version part) k.loop.output) filled
+          ∙ record-behind i a.first a.n a.version a.payload.now a.output.now (k .loop .inv .2),
     )
 
 returns : tie.Need-returns Inv-loop μ-loop
 returns c =
     let k = c .before in
     let a = k.before.before.before.args in
-    let all : k.loop.i ≡ a.full = omega arith in
-    k .loop .inv .2 ∙ ap (λ (records : ℕ). splice 0 (madeRecords records 0 a.n a.version a.payload.now) a.output.now) all
+    let all : k.loop.i ≡ a.records = omega arith in
+    k .loop .inv .2 ∙ ap (λ (records : ℕ). splice 0 (madeRecords records a.first a.n a.version a.payload.now) a.output.now) all
 
 -- by search: mul-from, mul-to, add-put-record, sub-put-record, part-put-record-start, part-put-record-end, add-put-record-2, sub-put-record-2,
 -- part-put-record-start-2, part-put-record-end-2, put-record-requires, add-i, loop-less, same-length
@@ -49,6 +49,7 @@ put-records-spec =
     Inv-loop
     μ-loop
     loop-holds
+    (λ c. search needs)
     (λ c. search needs)
     (λ c. search needs)
     (λ c. search needs)
