@@ -30,3 +30,4 @@ pub mod Counting
 pub mod Reports
 pub mod Sums
 pub mod Adopting
+pub mod Health
