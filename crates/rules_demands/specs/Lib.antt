@@ -10,3 +10,4 @@ pub mod Examples
 pub mod Reports
 -- Images made and read back, by examples.
 pub mod Images
+pub mod Health
