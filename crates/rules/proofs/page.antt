@@ -25,3 +25,5 @@ pub mod Demand1
 pub mod Counting
 pub mod Reports
 pub mod Sums
+pub mod Places
+pub mod Compared

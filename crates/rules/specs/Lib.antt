@@ -70,3 +70,4 @@ pub mod Demand3
 pub mod Beside
 -- Document 02.
 pub mod Report
+pub mod Compare

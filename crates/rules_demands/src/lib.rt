@@ -3,6 +3,7 @@
 ghost use Rattle.rules.specs.Demand1.{Demand1};
 ghost use Rattle.rules.specs.Demand3.{Demand3};
 ghost use Rattle.rules.specs.Report.{RequestT01};
+ghost use Rattle.rules.specs.Compare.{RequestT06};
 ghost use Rattle.rules_demands.specs.Calls.{Demand1WrittenOut};
 ghost use Rattle.rules_demands.specs.Histories.{Demand3WrittenOut};
 ghost use Rattle.rules_demands.specs.Beside.{BesideWrittenOut};
@@ -34,4 +35,9 @@ pub fn page_examples()
 // Document 02, T-01: the report's sums, its order, and the reports of two lists.
 pub fn request_t01()
     ensures { λ r. ⌜ RequestT01 ⌝ }
+{}
+
+// Document 02, T-06: what a report of two logs says of them, and what the rest is.
+pub fn request_t06()
+    ensures { λ r. ⌜ RequestT06 ⌝ }
 {}
