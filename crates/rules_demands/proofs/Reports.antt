@@ -20,6 +20,10 @@ written-out =
       any-order = λ logs others t p. request-T01 .all-taken logs t .any-order others p;
       grids-add = λ first second t. ap (λ (r : Report). r .grid) (request-T01 .all-taken (first ++ second) t .two-lists first second refl);
       ticks-add = λ first second t. ap (λ (r : Report). r .counts .ticks) (request-T01 .all-taken (first ++ second) t .two-lists first second refl);
+      masks-add = λ first second t. ap (λ (r : Report). r .counts .masks) (request-T01 .all-taken (first ++ second) t .two-lists first second refl);
+      powers-add = λ first second t. ap (λ (r : Report). r .counts .powers) (request-T01 .all-taken (first ++ second) t .two-lists first second refl);
+      bads-add = λ first second t. ap (λ (r : Report). r .counts .bads) (request-T01 .all-taken (first ++ second) t .two-lists first second refl);
+      shorts-add = λ first second t. ap (λ (r : Report). r .counts .shorts) (request-T01 .all-taken (first ++ second) t .two-lists first second refl);
       refused = request-T01 .one-refused;
     }
 

@@ -19,6 +19,10 @@ pub record ReportsWrittenOut : Type 0 where
   pub any-order : (logs others : List (List ℕ)) → AllTaken logs → Reordered logs others → AllTaken others × (reportOf others ≡ reportOf logs)
   pub grids-add : (first second : List (List ℕ)) → AllTaken (first ++ second) → reportOf (first ++ second) .grid ≡ addedGrid (reportOf first .grid) (reportOf second .grid)
   pub ticks-add : (first second : List (List ℕ)) → AllTaken (first ++ second) → reportOf (first ++ second) .counts .ticks ≡ reportOf first .counts .ticks + reportOf second .counts .ticks
+  pub masks-add : (first second : List (List ℕ)) → AllTaken (first ++ second) → reportOf (first ++ second) .counts .masks ≡ reportOf first .counts .masks + reportOf second .counts .masks
+  pub powers-add : (first second : List (List ℕ)) → AllTaken (first ++ second) → reportOf (first ++ second) .counts .powers ≡ reportOf first .counts .powers + reportOf second .counts .powers
+  pub bads-add : (first second : List (List ℕ)) → AllTaken (first ++ second) → reportOf (first ++ second) .counts .bads ≡ reportOf first .counts .bads + reportOf second .counts .bads
+  pub shorts-add : (first second : List (List ℕ)) → AllTaken (first ++ second) → reportOf (first ++ second) .counts .shorts ≡ reportOf first .counts .shorts + reportOf second .counts .shorts
   pub refused : (r : Report) (log : List ℕ) → feed r log .taken ≡ false → feed r log .report ≡ r
 
 -- the cell of host 2 and status 7, function 0 calls, ticks, power cycles, bad records, short tails: so much in one of them
