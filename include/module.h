@@ -8,7 +8,7 @@
  *  - Any bytes of any length get an answer. Nothing is asked of a buffer but that it has the bytes that its length says.
  *  - No pointer is NULL, not with length 0 either: a buffer of length 0, such as an empty request, may point anywhere else.
  *  - A buffer that a function writes overlaps no other buffer of the same call. Those that are only read may overlap.
- *  - No two calls at one time on the same record, the same area or the same slots.
+ *  - No two calls at one time on the same record, the same area, the same slots or the same output.
  *  - A number below 0 has written nothing at all.
  *  - A record is written byte after byte, not at once, and so is any copy of it. Where power may go at any moment, the
  *    record that the functions work on is in ordinary memory, and is kept in two slots: "Power loss", below.
@@ -244,7 +244,7 @@ int32_t module_adopt(uint8_t *record, size_t record_len);
  *
  * examples/two_hosts.c does all of it. */
 
-#define MODULE_REFUSED (-1) /* what the four functions below answer where they did nothing */
+#define MODULE_REFUSED (-1) /* what the four slots_ functions answer where they did nothing */
 
 /* A new module's slots: slot 0 is selected and holds what module_fresh makes, slot 1 is zeros. Once in a module's life.
  *
@@ -292,11 +292,12 @@ int32_t slots_read(const uint8_t *slots, size_t slots_len, uint8_t *record, size
  * Answers: the length of the image; IMAGE_VERSION_0, IMAGE_OVER_128 or IMAGE_MAKE_ROOM, looked for in this order. */
 int32_t image_make(uint64_t version, const uint8_t *payload, size_t payload_len, uint8_t *output, size_t output_len);
 
-/* The payload that an image carries, with the zeros that fill its last part. The image is tested as module_tick tests it.
+/* The payload that an image carries: all MODULE_IMAGE_PART bytes of each record, the zeros with which image_make fills the
+ * last one among them. The image is tested as module_tick tests it.
  *
  * Reads:   image, the length of the output; none of its bytes.
  * Writes:  the payload at the front of output, MODULE_IMAGE_PART bytes for each record, and no byte behind it.
- * Answers: the length of the payload with its zeros; IMAGE_NOT_GOOD or IMAGE_READ_ROOM, looked for in this order. */
+ * Answers: the length of what was written; IMAGE_NOT_GOOD or IMAGE_READ_ROOM, looked for in this order. */
 int32_t image_read(const uint8_t *image, size_t image_len, uint8_t *output, size_t output_len);
 
 #ifdef __cplusplus
