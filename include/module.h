@@ -136,7 +136,7 @@ extern "C" {
  *   34-35   media temperature threshold
  *   36-37   controller temperature threshold
  *   38      in Failed, the reason of the first fault, MODULE_FAULT_SIZE to MODULE_FAULT_SUM; else 0
- *   39      in Failed, the number of its record, from 0 to 127, and 0 to 127; for MODULE_FAULT_SIZE a tick writes 0; else 0
+ *   39      in Failed, the number of its record, from 0 to 127; a tick writes 0 for MODULE_FAULT_SIZE; else 0
  *   40-63   zero
  *   64-95   passphrase
  *   96-127  zero
