@@ -28,5 +28,6 @@ pub mod Records
 pub mod Images
 pub mod Counting
 pub mod Reports
+pub mod NoneAbove
 pub mod Sums
 pub mod Adopting

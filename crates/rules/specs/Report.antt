@@ -1,8 +1,8 @@
 -- Document 02, "T-01 Which host gets which answers": the report over any count of logs, "each replayed from a fresh module". Readings: docs/DECISIONS.md, B2 to
 -- B6 and B63.
 -- Assumes nothing.
-use Prim.Native.Nat.{ℕ, zero, suc, _+_, _-_}
-use mathlib.Core.{Path._≡_, Bool.{Bool, true, false, _&&_}, List.{List, [], _∷_, _++_}}
+use Prim.Native.Nat.{ℕ, zero, suc, _+_, _-_, _≤_}
+use mathlib.Core.{Path._≡_, Logic._↔_, Bool.{Bool, true, false, _&&_}, List.{List, [], _∷_, _++_}}
 use lib.ListN.{getD, set, replicate}
 use Rattle.rules.specs.Tests.{if_then_else_, _≤?_, _=?_}
 use Rattle.rules.specs.Text.{ascii, decimal, field}
@@ -226,14 +226,30 @@ pub data Reordered : List (List ℕ) → List (List ℕ) → Type 0 where
   two-swapped : {first second : List ℕ} {logs : List (List ℕ)} → Reordered (first ∷ second ∷ logs) (second ∷ first ∷ logs)
   and-again : {logs others further : List (List ℕ)} → Reordered logs others → Reordered others further → Reordered logs further
 
--- T-01 of logs that were all taken: the sums; in another order they are all taken too, and the report is the same; the report of two lists of logs is the
--- sum of theirs.
+-- T-01 of logs that were all taken: the sums; in another order they are all taken too, and the report is the same; where they are two lists of logs, each of
+-- these is all taken by itself, and the report is the sum of theirs.
 pub record Reported (logs : List (List ℕ)) : Type 0 where
   pub sums : Sums (reportOf logs) logs
   pub any-order : (others : List (List ℕ)) → Reordered logs others → AllTaken others × (reportOf others ≡ reportOf logs)
+  pub each-list : (first second : List (List ℕ)) → logs ≡ first ++ second → AllTaken first × AllTaken second
   pub two-lists : (first second : List (List ℕ)) → logs ≡ first ++ second → reportOf logs ≡ reportOf first plus reportOf second
 
--- And a refused log changes nothing.
+-- every number of a report is at most so much: each cell, by its row and column, and each other count
+pub record NoneAbove (most : ℕ) (r : Report) : Type 0 where
+  pub cells : (row column : ℕ) → getD (getD (r .grid) row []) column 0 ≤ most
+  pub masks : r .counts .masks ≤ most
+  pub ticks : r .counts .ticks ≤ most
+  pub powers : r .counts .powers ≤ most
+  pub bads : r .counts .bads ≤ most
+  pub shorts : r .counts .shorts ≤ most
+
+-- "log too many, exactly if some count would pass 4,294,967,295; the report stays as it was": a log is taken exactly if no number is then above it; one that is
+-- taken is counted, and a refused one changes nothing. And two lists of logs that were each taken, on two machines, are taken together exactly if no number of
+-- the sum of their reports is above it; the sum is then their report.
 pub record RequestT01 : Type 0 where
   pub all-taken : (logs : List (List ℕ)) → AllTaken logs → Reported logs
+  pub taken-exactly : (r : Report) (log : List ℕ) → (feed r log .taken ≡ true) ↔ NoneAbove 4294967295 (withLog r log)
+  pub one-taken : (r : Report) (log : List ℕ) → feed r log .taken ≡ true → fedNext r log ≡ withLog r log
   pub one-refused : (r : Report) (log : List ℕ) → feed r log .taken ≡ false → fedNext r log ≡ r
+  pub two-machines : (first second : List (List ℕ)) → AllTaken first → AllTaken second
+      → AllTaken (first ++ second) ↔ NoneAbove 4294967295 (reportOf first plus reportOf second)

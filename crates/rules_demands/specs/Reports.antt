@@ -1,14 +1,31 @@
 -- Document 02, T-01, written out, and by examples: the report of the list of texts' logs, and each count one below the largest and at it.
 -- Assumes nothing.
-use Prim.Native.Nat.{ℕ, _+_}
+use Prim.Native.Nat.{ℕ, _+_, _≤_}
 use mathlib.Core.{Path._≡_, Bool.{true, false}, List.{List, [], _∷_, _++_, map}}
 use lib.ListN.{getD, replicate}
 use Rattle.rules.specs.Text.{ascii}
 use Rattle.rules.specs.Texts.{texts, logOf}
 use Rattle.rules.specs.History.{total}
-use Rattle.rules.specs.Report.{Report, feed, reportOf, reportText, AllTaken, countIn, ifCall, ifTick, ifPower, ifBad, ifShort, gridSum, addedGrid, Reordered}
+use Rattle.rules.specs.Report.{Report, withLog, feed, reportOf, reportText, AllTaken, countIn, ifCall, ifTick, ifPower, ifBad, ifShort, gridSum, addedGrid, Reordered}
 
--- of logs that were all taken; and of one that was refused
+-- each number of a report; and each sum of two reports' numbers
+pub record Each (P : ℕ → Type 0) (r : Report) : Type 0 where
+  pub cells : (row column : ℕ) → P (getD (getD (r .grid) row []) column 0)
+  pub masks : P (r .counts .masks)
+  pub ticks : P (r .counts .ticks)
+  pub powers : P (r .counts .powers)
+  pub bads : P (r .counts .bads)
+  pub shorts : P (r .counts .shorts)
+
+pub record EachSum (P : ℕ → Type 0) (r q : Report) : Type 0 where
+  pub cell-sums : (row column : ℕ) → P (getD (getD (addedGrid (r .grid) (q .grid)) row []) column 0)
+  pub mask-sum : P (r .counts .masks + q .counts .masks)
+  pub tick-sum : P (r .counts .ticks + q .counts .ticks)
+  pub power-sum : P (r .counts .powers + q .counts .powers)
+  pub bad-sum : P (r .counts .bads + q .counts .bads)
+  pub short-sum : P (r .counts .shorts + q .counts .shorts)
+
+-- of logs that were all taken; and of one log, taken or refused
 pub record ReportsWrittenOut : Type 0 where
   pub calls : (logs : List (List ℕ)) → AllTaken logs → gridSum (reportOf logs .grid) + reportOf logs .counts .masks ≡ total (countIn ifCall) logs
   pub ticks : (logs : List (List ℕ)) → AllTaken logs → reportOf logs .counts .ticks ≡ total (countIn ifTick) logs
@@ -23,7 +40,16 @@ pub record ReportsWrittenOut : Type 0 where
   pub powers-add : (first second : List (List ℕ)) → AllTaken (first ++ second) → reportOf (first ++ second) .counts .powers ≡ reportOf first .counts .powers + reportOf second .counts .powers
   pub bads-add : (first second : List (List ℕ)) → AllTaken (first ++ second) → reportOf (first ++ second) .counts .bads ≡ reportOf first .counts .bads + reportOf second .counts .bads
   pub shorts-add : (first second : List (List ℕ)) → AllTaken (first ++ second) → reportOf (first ++ second) .counts .shorts ≡ reportOf first .counts .shorts + reportOf second .counts .shorts
+  pub first-taken : (first second : List (List ℕ)) → AllTaken (first ++ second) → AllTaken first
+  pub second-taken : (first second : List (List ℕ)) → AllTaken (first ++ second) → AllTaken second
   pub refused : (r : Report) (log : List ℕ) → feed r log .taken ≡ false → feed r log .report ≡ r
+  pub counted : (r : Report) (log : List ℕ) → feed r log .taken ≡ true → feed r log .report ≡ withLog r log
+  -- a log is taken if every number is then at most 4,294,967,295, and only then
+  pub taken : (r : Report) (log : List ℕ) → Each (λ n. n ≤ 4294967295) (withLog r log) → feed r log .taken ≡ true
+  pub taken-only : (r : Report) (log : List ℕ) → feed r log .taken ≡ true → Each (λ n. n ≤ 4294967295) (withLog r log)
+  -- and so of two lists that were each taken, by the sums of their numbers
+  pub joined : (first second : List (List ℕ)) → AllTaken first → AllTaken second → EachSum (λ n. n ≤ 4294967295) (reportOf first) (reportOf second) → AllTaken (first ++ second)
+  pub joined-only : (first second : List (List ℕ)) → AllTaken first → AllTaken second → AllTaken (first ++ second) → EachSum (λ n. n ≤ 4294967295) (reportOf first) (reportOf second)
 
 -- the cell of host 2 and status 7, function 0 calls, ticks, power cycles, bad records, short tails: so much in one of them
 abbrev pub withCount : (cell masks ticks powers bads shorts : ℕ) → Report

@@ -1,7 +1,7 @@
 -- Document 02, T-01: the report of logs that were all taken is the sum of what each counts; so their order is no matter, and the reports of two lists add up.
 -- Assumes nothing.
 use Prim.Native.Nat.{ℕ, suc, _+_, _≤_}
-use mathlib.Core.{Path.{_≡_, refl, sym, _∙_, ap, subst}, Bool.{Bool, true, false, _&&_, false≢true}, List.{List, [], _∷_, _++_}}
+use mathlib.Core.{Path.{_≡_, refl, sym, _∙_, ap, subst}, Logic._↔_, Bool.{Bool, true, false, _&&_, false≢true}, List.{List, [], _∷_, _++_}}
 use native.Mathlib.Omega.{arith}
 use lib.ListN.{length}
 use borrow.Author.Tests.{leb-true, le-leb}
@@ -152,11 +152,29 @@ any-order logs others t p =
     let u : AllTaken others = all-taken-of others (subst (λ (q : Report). fits q ≡ true) (reordered p) (together-fits logs t)) in
     (u, is-together others u ∙ sym (reordered p) ∙ sym (is-together logs t))
 
--- the reports of two lists add up
+-- two lists that are taken together are each taken, and their reports add up
+pub each-list : (first second : List (List ℕ)) → AllTaken (first ++ second) → AllTaken first × AllTaken second
+each-list first second t =
+    let f : fits (together first plus together second) ≡ true = subst (λ (q : Report). fits q ≡ true) (together-join first second) (together-fits (first ++ second) t) in (
+      all-taken-of first (fits-first (together first) (together second) (shaped-together first) (shaped-together second) f),
+      all-taken-of second (fits-first (together second) (together first) (shaped-together second) (shaped-together first) (subst (λ (q : Report). fits q ≡ true) (plus-swap (together first) (together second)) f)),
+    )
+
+-- what two lists that were each taken count together is the sum of their reports
+both-together : (first second : List (List ℕ)) → AllTaken first → AllTaken second → together (first ++ second) ≡ reportOf first plus reportOf second
+both-together first second a b =
+    together-join first second
+    ∙ ap (λ (q : Report). q plus together second) (sym (is-together first a)) ∙ ap (λ (q : Report). reportOf first plus q) (sym (is-together second b))
+
 pub two-lists : (first second : List (List ℕ)) → AllTaken (first ++ second) → reportOf (first ++ second) ≡ reportOf first plus reportOf second
 two-lists first second t =
-    let f : fits (together first plus together second) ≡ true = subst (λ (q : Report). fits q ≡ true) (together-join first second) (together-fits (first ++ second) t) in
-    let a : AllTaken first = all-taken-of first (fits-first (together first) (together second) (shaped-together first) (shaped-together second) f) in
-    let b : AllTaken second = all-taken-of second (fits-first (together second) (together first) (shaped-together second) (shaped-together first) (subst (λ (q : Report). fits q ≡ true) (plus-swap (together first) (together second)) f)) in
-    is-together (first ++ second) t ∙ together-join first second
-    ∙ ap (λ (q : Report). q plus together second) (sym (is-together first a)) ∙ ap (λ (q : Report). reportOf first plus q) (sym (is-together second b))
+    let each = each-list first second t in
+    is-together (first ++ second) t ∙ both-together first second (each .0) (each .1)
+
+-- they are taken together exactly where that sum fits
+pub two-machines : (first second : List (List ℕ)) → AllTaken first → AllTaken second → AllTaken (first ++ second) ↔ (fits (reportOf first plus reportOf second) ≡ true)
+two-machines first second a b =
+    let sum = both-together first second a b in (
+      λ t. subst (λ (q : Report). fits q ≡ true) sum (together-fits (first ++ second) t),
+      λ f. all-taken-of (first ++ second) (subst (λ (q : Report). fits q ≡ true) (sym sum) f),
+    )

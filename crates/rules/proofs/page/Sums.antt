@@ -1,7 +1,7 @@
 -- Document 02, T-01: "The grid's sum plus the function 0 calls equals the good call records in the logs, counted from the logs themselves."
 -- Assumes nothing.
 use Prim.Native.Nat.{ℕ, zero, suc, _+_, _-_, _≤_, _<_}
-use mathlib.Core.{Path.{_≡_, refl, sym, _∙_, ap, subst}, Bool.{Bool, true, false, not, _&&_, true≢false}, List.{List, [], _∷_, _++_}}
+use mathlib.Core.{Path.{_≡_, refl, sym, _∙_, ap, subst}, Logic._↔_, Bool.{Bool, true, false, not, _&&_, true≢false}, List.{List, [], _∷_, _++_}}
 use native.Mathlib.Omega.{arith}
 use lib.ListN.{length, getD, set}
 use borrow.Author.Tests.{leb-true}
@@ -9,13 +9,14 @@ use Rattle.rules.specs.{Tests.{if_then_else_, _≤?_, _=?_}, Bytes.zeros
 use Rattle.rules.specs.Module.{Call, callOf, checks, gateChecks, callChecks, callResult, outcome}
 use Rattle.rules.specs.Log.{recordSize, kindIn, hostIn, revisionIn, functionIn, lengthIn, requestIn, padded, goodCall, bare, entryOf, recordsIn, recordAt, shortTail}
 use Rattle.rules.specs.{Replay.{replayStart, replayCall, moduleAfter, printedStatus}, History.{All, total}}
-use Rattle.rules.specs.Report.{Report, nothingCounted, Counted, answered, masked, countedAs, raisedAt, raisedCell, raised, reportAfter, countTo, ifCall, ifTick, ifPower, ifBad, gridSum, Sums, addedRow, addedGrid, withLog, fits, fedIf, feed, fedNext, AllTaken, reportOf, Reported, RequestT01}
+use Rattle.rules.specs.Report.{Report, nothingCounted, Counted, answered, masked, countedAs, raisedAt, raisedCell, raised, reportAfter, countTo, ifCall, ifTick, ifPower, ifBad, gridSum, Sums, addedRow, addedGrid, withLog, fits, fedIf, feed, fedNext, AllTaken, reportOf, _plus_, Reported, NoneAbove, RequestT01}
 use Rattle.rules.specs.declared.Function.{Function}
 use Rattle.rules.specs.declared.Function.the-variants.{Mask, GetThreshold, GetFwInfo, Start, Send, Finish, Query, SetThreshold, GetSecurityState, SetPassphrase, Disable, Unlock, Freeze, Unserved}
 use Rattle.rules.specs.{declared.Refusal.the-variants.{R, Status}, declared.Verdict.Verdict, declared.Verdict.the-variants.{Accepted, Refused}}
 use Rattle.rules.specs.declared.Entry.{Entry}
 use Rattle.rules.proofs.{page.Choice.and-true, page.Passed.{every, by-rows}, page.Counting.{Shaped, shaped-nothing, shaped-after, counted, shaped-log}}
-use Rattle.rules.proofs.page.Reports.{together, shaped-together, is-together, any-order, two-lists}
+use Rattle.rules.proofs.page.Reports.{taken-report, fits-taken, together, shaped-together, is-together, any-order, each-list, two-lists, two-machines}
+use Rattle.rules.proofs.page.NoneAbove.{fits-exactly}
 use Rattle.rules.specs.declared.Entry.the-variants as Entry′
 
 -- the host of a good call record is 1 to 4
@@ -210,6 +211,7 @@ reported logs t =
     record {
       sums = subst (λ (r : Report). Sums r logs) (sym (is-together logs t)) (sums-together logs);
       any-order = λ others p. any-order logs others t p;
+      each-list = λ first second e. each-list first second (subst (λ (l : List (List ℕ)). AllTaken l) e t);
       two-lists = λ first second e.
           ap reportOf e ∙ two-lists first second (subst (λ (l : List (List ℕ)). AllTaken l) e t);
     }
@@ -222,5 +224,24 @@ one-refused r log e = go (fits (withLog r log)) e
     go true e = absurd (true≢false e)
     go false e = refl
 
+taken-exactly : (r : Report) (log : List ℕ) → (feed r log .taken ≡ true) ↔ NoneAbove 4294967295 (withLog r log)
+taken-exactly r log =
+    let fit = fits-exactly (withLog r log) in
+    (λ t. fit .0 (taken-report r log t .0), λ none. fits-taken r log (fit .1 none) .0)
+
+machines : (first second : List (List ℕ)) → AllTaken first → AllTaken second
+    → AllTaken (first ++ second) ↔ NoneAbove 4294967295 (reportOf first plus reportOf second)
+machines first second a b =
+    let fit = fits-exactly (reportOf first plus reportOf second) in
+    let both = two-machines first second a b in
+    (λ t. fit .0 (both .0 t), λ none. both .1 (fit .1 none))
+
 pub request-T01 : RequestT01
-request-T01 = record { all-taken = reported; one-refused = one-refused }
+request-T01 =
+    record {
+      all-taken = reported;
+      taken-exactly = taken-exactly;
+      one-taken = λ r log t. taken-report r log t .1;
+      one-refused = one-refused;
+      two-machines = machines;
+    }
