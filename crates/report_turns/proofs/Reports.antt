@@ -5,12 +5,12 @@ use Prim.Native.Nat.{ℕ, zero, suc, _+_, _*_, _%_, _≤_}
 use native.Mathlib.{Nat.{add-zero, add-suc}, Omega.arith}
 use lib.ListN.{length, length-append}
 use Rattle.rules.{specs.Tests._=?_, specs.Record.Module, specs.Log.{recordsIn, recordAt, shortTail}, specs.Replay.{replayStart, moduleAfter}}
-use Rattle.rules.specs.Report.{Report, Counted, recordCounted, withLog, fits, fedIf, feed, fedNext}
+use Rattle.rules.specs.Report.{Report, Counted, recordCounted, withLog, fits, Fed, fedIf, feed, fedNext}
 use Rattle.replay_step.{specs.Parts.{logOf, Whole}, proofs.Joined.{far, near, module-near, module-joined}}
 use Rattle.report_tally.specs.Tally.{Tally, tallied, talliedTail}
 use Rattle.report_log.{specs.Parts.{tallyAfter, begun, fedBy}, proofs.Exact.fed-by-tally}
 use Rattle.program_logs.specs.declared.Turn.the-variants.{Beginning, Part}
-use Rattle.report_turns.specs.Turned.{State, begins, turned, partsTurned, logTurned, logLeft, ReportOfTurns}
+use Rattle.report_turns.specs.Turned.{State, begins, turned, partsTurned, logRead, logTurned, logRefused, logLeft, ReportOfTurns}
 
 -- two parts, the first of which is whole records
 module _ (a b : List ℕ) (k : ℕ) (whole : length a ≡ k * 544) (t : Tally) (m : Module) where
@@ -58,12 +58,20 @@ parts-kept : (s : State) (parts : List (List ℕ)) → partsTurned s parts .kept
 parts-kept s [] = refl
 parts-kept s (part ∷ parts) = parts-kept (turned Part s part) parts
 
-fed : (s : State) (parts : List (List ℕ)) (last : List ℕ) → Whole parts → fits (s .kept) ≡ true → logTurned s parts last .kept ≡ fedNext (s .kept) (logOf parts last)
-fed s parts last whole f =
+-- the end of a log is what feeding the whole of it comes to, taken or not
+ended : (s : State) (parts : List (List ℕ)) (last : List ℕ) → Whole parts → fits (s .kept) ≡ true
+    → fedBy (talliedTail (shortTail last) (logRead s parts last .tally)) (logRead s parts last .kept) ≡ feed (s .kept) (logOf parts last)
+ended s parts last whole f =
     let from : State = begins (s .kept) in
-    ap (λ (r : Report). fedBy (tailed (partsTurned from parts .tally) (partsTurned from parts .module-now) last) r .report) (parts-kept from parts)
-    ∙ ap (λ (t : Tally). fedBy t (s .kept) .report) (parts-tailed from parts last whole)
-    ∙ ap (λ (x : _). x .report) (fed-by-tally (s .kept) (logOf parts last) f)
+    ap (fedBy (tailed (partsTurned from parts .tally) (partsTurned from parts .module-now) last)) (parts-kept from parts)
+    ∙ ap (λ (t : Tally). fedBy t (s .kept)) (parts-tailed from parts last whole)
+    ∙ fed-by-tally (s .kept) (logOf parts last) f
+
+fed : (s : State) (parts : List (List ℕ)) (last : List ℕ) → Whole parts → fits (s .kept) ≡ true → logTurned s parts last .kept ≡ fedNext (s .kept) (logOf parts last)
+fed s parts last whole f = ap (λ (x : Fed). x .report) (ended s parts last whole f)
+
+refused : (s : State) (parts : List (List ℕ)) (last : List ℕ) → Whole parts → fits (s .kept) ≡ true → logRefused s parts last ≡ not (feed (s .kept) (logOf parts last) .taken)
+refused s parts last whole f = ap (λ (x : Fed). not (x .taken)) (ended s parts last whole f)
 
 fits-again : (r : Report) (log : List ℕ) → fits r ≡ true → fits (fedNext r log) ≡ true
 unfolding feed
@@ -74,4 +82,4 @@ fits-again r log f = go (fits (withLog r log)) refl
     go false e = f
 
 pub report-of-turns : ReportOfTurns
-report-of-turns = record { fed = fed; fits-again = fits-again; unreadable = λ s parts. parts-kept (begins (s .kept)) parts }
+report-of-turns = record { fed = fed; refused = refused; fits-again = fits-again; unreadable = λ s parts. parts-kept (begins (s .kept)) parts }

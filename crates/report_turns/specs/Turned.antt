@@ -5,7 +5,7 @@ use Prim.Native.Nat.{ℕ}
 use Rattle.rules.specs.Record.{Module, moduleOf}
 use Rattle.rules.specs.Log.{recordsIn, shortTail}
 use Rattle.rules.specs.Replay.{replayStart, moduleAfter}
-use Rattle.rules.specs.Report.{Report, fits, fedNext}
+use Rattle.rules.specs.Report.{Report, fits, feed, fedNext}
 use Rattle.rules.specs.declared.Counts.{Counts}
 use Rattle.program_logs.specs.declared.{Turn.Turn, Turn.the-variants.{Beginning, Part, End, Unreadable, Nothing}}
 use Rattle.replay_step.specs.Parts.{logOf, Whole}
@@ -67,15 +67,23 @@ abbrev pub partsTurned : State → (parts : List (List ℕ)) → State
 partsTurned s [] = s
 partsTurned s (part ∷ parts) = partsTurned (turned Part s part) parts
 
+abbrev pub logRead : State → (parts : List (List ℕ)) (last : List ℕ) → State
+logRead s parts last = turned Part (partsTurned (turned Beginning s []) parts) last
+
 abbrev pub logTurned : State → (parts : List (List ℕ)) (last : List ℕ) → State
-logTurned s parts last = turned (End (shortTail last)) (turned Part (partsTurned (turned Beginning s []) parts) last) []
+logTurned s parts last = turned (End (shortTail last)) (logRead s parts last) []
+
+-- whether its last turn refuses it
+abbrev pub logRefused : State → (parts : List (List ℕ)) (last : List ℕ) → Bool
+logRefused s parts last = refuses (End (shortTail last)) (logRead s parts last)
 
 abbrev pub logLeft : State → (parts : List (List ℕ)) → State
 logLeft s parts = turned Unreadable (partsTurned (turned Beginning s []) parts) []
 
--- What is kept after the turns of a log is what feeding the log comes to, where every part but the last is whole records, and it fits again; "a log that stops
--- being readable in its middle counts nothing".
+-- What is kept after the turns of a log is what feeding the log comes to, where every part but the last is whole records; the log is refused exactly where
+-- feeding does not take it; what is kept fits again; "a log that stops being readable in its middle counts nothing".
 pub record ReportOfTurns : Type 0 where
   pub fed : (s : State) (parts : List (List ℕ)) (last : List ℕ) → Whole parts → fits (s .kept) ≡ true → logTurned s parts last .kept ≡ fedNext (s .kept) (logOf parts last)
+  pub refused : (s : State) (parts : List (List ℕ)) (last : List ℕ) → Whole parts → fits (s .kept) ≡ true → logRefused s parts last ≡ not (feed (s .kept) (logOf parts last) .taken)
   pub fits-again : (r : Report) (log : List ℕ) → fits r ≡ true → fits (fedNext r log) ≡ true
   pub unreadable : (s : State) (parts : List (List ℕ)) → logLeft s parts .kept ≡ s .kept
