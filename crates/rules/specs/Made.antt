@@ -1,5 +1,6 @@
 -- Document 02, "T-02 We need to make images, not only accept them": the records made from a payload and a version, and the payload that an image carries. The
--- layout of a record and its sum are those of a good image (Image.antt): no place is said here again. Readings: docs/DECISIONS.md, B7, B8 and B63.
+-- fields with their sizes, and the sum, are those of a good image (Image.antt). Making says their order besides, one after another; that each then lies at its
+-- place there is proved with `good-image`. Readings: docs/DECISIONS.md, B7, B8 and B63.
 -- Assumes nothing.
 use Prim.Native.Nat.{ℕ, zero, suc, _+_, _-_, _*_, _/_, _≤_}
 use mathlib.Core.{Path._≡_, List.{List, [], _++_}}
@@ -98,9 +99,26 @@ pub record MadeWell (payload : List ℕ) (version : ℕ) : Type 0 where
   pub reads-back : payloadOf (madeImage payload version) ≡ withPadding payload
   pub its-bytes : AreBytes payload → AreBytes (madeImage payload version)
 
+-- "112-byte parts, the last padded with zeros; an empty payload makes one record": at least one part, enough for the payload, and no more than that takes
+pub record PartsOf (payload : List ℕ) (parts : ℕ) : Type 0 where
+  pub one : 1 ≤ parts
+  pub enough : length payload ≤ parts * partSize
+  pub no-more : (fewer : ℕ) → 1 ≤ fewer → length payload ≤ fewer * partSize → parts ≤ fewer
+
+-- what an answer tells is the length of what is written, and the output has room for it
+pub record Told (told : ℕ) (written output : List ℕ) : Type 0 where
+  pub its-length : told ≡ length written
+  pub room : told ≤ length output
+
 -- T-02: of any payload of at most 14,336 bytes, which is at most 128 records, and of any version from 1 on that has 64 bits; and the other way round, what a
--- good image carries makes that image again, byte for byte.
+-- good image carries makes that image again, byte for byte. What is made has 128 bytes for each part of the payload, what is read back 112 for each record, and
+-- so much is told.
 pub record RequestT02 : Type 0 where
+  pub parts : (payload : List ℕ) → PartsOf payload (partsOf payload)
   pub over-128-records : (payload : List ℕ) → (mostRecords <? partsOf payload) ≡ (14336 <? length payload)
   pub made-well : (payload : List ℕ) (version : ℕ) → length payload ≤ 14336 → 1 ≤ version → version ≤ 18446744073709551615 → MadeWell payload version
   pub made-again : (image : List ℕ) (version : ℕ) → AreBytes image → imageOf image ≡ Good version → madeImage (payloadOf image) version ≡ image
+  pub made-size : (payload : List ℕ) (version : ℕ) → length (madeImage payload version) ≡ partsOf payload * imageRecordSize
+  pub read-size : (image : List ℕ) → length (payloadOf image) ≡ recordsOf image * partSize
+  pub made-told : (version : ℕ) (payload output : List ℕ) (told : ℕ) → makingOf version payload output ≡ Made told → Told told (madeImage payload version) output
+  pub read-told : (image output : List ℕ) (told : ℕ) → readingOf image output ≡ Read told → Told told (payloadOf image) output

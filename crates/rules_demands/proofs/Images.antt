@@ -14,6 +14,15 @@ written-out =
       reads-back = λ payload version few some fits. request-T02 .made-well payload version few some fits .reads-back;
       its-bytes = λ payload version few some fits. request-T02 .made-well payload version few some fits .its-bytes;
       made-again = request-T02 .made-again;
+      one-part = λ payload. request-T02 .parts payload .one;
+      room-for-all = λ payload. request-T02 .parts payload .enough;
+      the-least = λ payload. request-T02 .parts payload .no-more;
+      made-size = request-T02 .made-size;
+      read-size = request-T02 .read-size;
+      made-told = λ version payload output told e. request-T02 .made-told version payload output told e .its-length;
+      made-fits = λ version payload output told e. request-T02 .made-told version payload output told e .room;
+      read-told = λ image output told e. request-T02 .read-told image output told e .its-length;
+      read-fits = λ image output told e. request-T02 .read-told image output told e .room;
     }
 
 pub images-held : ImagesHeld

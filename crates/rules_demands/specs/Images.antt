@@ -1,6 +1,6 @@
 -- Document 02, T-02, written out, and by examples: two images written out byte by byte, how many records payloads make, and each refusal where its turn is.
 -- Assumes nothing.
-use Prim.Native.Nat.{ℕ, _-_, _*_, _<_, _≤_}
+use Prim.Native.Nat.{ℕ, _-_, _*_, _/_, _<_, _≤_}
 use mathlib.Core.{Path._≡_, List.{List, [], _∷_, _++_, map}}
 use lib.ListN.{length, replicate, getD}
 use Rattle.rules.specs.{Tests.{_<?_}, Fault.{imageOf}}
@@ -20,6 +20,17 @@ pub record ImagesWrittenOut : Type 0 where
       → ((place : ℕ) → getD payload place 0 < 256) → (place : ℕ) → getD (madeImage payload version) place 0 < 256
   pub made-again : (image : List ℕ) (version : ℕ) → ((place : ℕ) → getD image place 0 < 256) → imageOf image ≡ Good version
       → madeImage (payloadOf image) version ≡ image
+  -- the lengths: n is the least number from 1 on with room for the payload; n times 128 bytes are made, and for n times 128 bytes n times 112 are read back
+  pub one-part : (payload : List ℕ) → 1 ≤ partsOf payload
+  pub room-for-all : (payload : List ℕ) → length payload ≤ partsOf payload * 112
+  pub the-least : (payload : List ℕ) (n : ℕ) → 1 ≤ n → length payload ≤ n * 112 → partsOf payload ≤ n
+  pub made-size : (payload : List ℕ) (version : ℕ) → length (madeImage payload version) ≡ partsOf payload * 128
+  pub read-size : (image : List ℕ) → length (payloadOf image) ≡ length image / 128 * 112
+  -- so many bytes are told as are written, and they fit
+  pub made-told : (version : ℕ) (payload output : List ℕ) (told : ℕ) → makingOf version payload output ≡ Made told → told ≡ length (madeImage payload version)
+  pub made-fits : (version : ℕ) (payload output : List ℕ) (told : ℕ) → makingOf version payload output ≡ Made told → told ≤ length output
+  pub read-told : (image output : List ℕ) (told : ℕ) → readingOf image output ≡ Read told → told ≡ length (payloadOf image)
+  pub read-fits : (image output : List ℕ) (told : ℕ) → readingOf image output ≡ Read told → told ≤ length output
 
 -- an empty payload, version 1: one record, number 0 of 1
 abbrev pub emptyImage : List ℕ

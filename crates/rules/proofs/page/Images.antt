@@ -5,12 +5,13 @@ use Prim.Native.Nat.{ℕ, zero, suc, _≤_, _<_, _+_, _-_, _*_, _^_, _/_}
 use native.Mathlib.Omega.{arith}
 use lib.{Dec.{leb, eqb}, ListN.{length, take, drop, length-append, length-drop, length-replicate, replicate-append-replicate, take-append-drop, drop-of-length-le}}
 use lib.Seq.{take-append-le, drop-append-le, drop-drop, drop-at, take-at, take-all, length-take-le}
-use borrow.Author.Tests.{leb-true, leb-false, eqb-true, eqb-false, eq-eqb, ne-eqb, le-leb, lt-ltb, le-ltb}
+use borrow.Author.Tests.{leb-true, leb-false, eqb-true, eqb-false, eq-eqb, ne-eqb, le-leb, lt-ltb, le-ltb, ltb-false}
 use Rattle.rules.specs.{Tests.{if_then_else_, _<?_, _=?_}, Bytes.{zeros, AreBytes}}
 use Rattle.rules.specs.Image.{mostRecords, payloadField, bytesIn, recordsOf, goodRecord, goodRecords, goodSize, versionOf, goodImage}
 use Rattle.rules.specs.Fault.{imageOf}
-use Rattle.rules.specs.Made.{partsIn, partsOf, firstPart, madeRecord, madeRecords, madeImage, carried, payloadOf, MadeWell, RequestT02}
-use Rattle.rules.specs.declared.Image.the-variants.{Good}
+use Rattle.rules.specs.Made.{partsIn, partsOf, firstPart, madeRecord, madeRecords, madeImage, carried, payloadOf, makingOf, readingIf, readingOf, MadeWell, PartsOf, Told, RequestT02}
+use Rattle.rules.specs.declared.{Image.Image, Image.the-variants.{Good, Bad}, Making.the-variants.{Made, VersionZero, PayloadOver128Records, OutputTooShort}}
+use Rattle.rules.specs.declared.ReadingBack.the-variants.{Read, OutputTooShort as ReadTooShort}
 use Rattle.rules.proofs.page.Choice.{and-true}
 use Rattle.rules.proofs.page.Faults.{is-good}
 use Rattle.rules.proofs.page.Le.{take-bytes, drop-bytes, append-bytes, zeros-bytes}
@@ -315,5 +316,65 @@ made-again image version are e =
     let same : partsOf (carried n image) ≡ n = omega (arith, long, parts .some, parts .enough, parts .no-more, k .sized .some) in
     ap (λ (m : ℕ). madeRecords m 0 m version (carried n image)) same ∙ records-again n 0 n version image (k .sized .whole) are (k .good)
 
+-- at least one part, enough for the payload, and no more
+parts-of : (payload : List ℕ) → PartsOf payload (partsOf payload)
+parts-of payload =
+    let c = cut payload in
+    record { one = c .some; enough = c .enough; no-more = λ fewer some enough. omega (arith, c .no-more, some, enough) }
+
+made-size : (payload : List ℕ) (version : ℕ) → length (madeImage payload version) ≡ partsOf payload * 128
+unfolding madeImage
+made-size payload version = records-long (partsOf payload) 0 (partsOf payload) version payload
+
+read-size : (image : List ℕ) → length (payloadOf image) ≡ recordsOf image * 112
+unfolding payloadOf
+read-size image = carried-long (recordsOf image) image (omega arith)
+
+-- what is told where something is made, and where it is read back
+record Tells (size told room : ℕ) : Type 0 where
+  same : told ≡ size
+  fits : size ≤ room
+
+tells-made : (zero? over? : Bool) (size room : ℕ) (told : ℕ)
+    → (if zero? then VersionZero else if over? then PayloadOver128Records else if room <? size then OutputTooShort else Made size) ≡ Made told → Tells size told room
+tells-made true over? size room told e = let z : _≡_ {A = ℕ} 0 1 = cc in absurd (omega arith)
+tells-made false true size room told e = let z : _≡_ {A = ℕ} 0 1 = cc in absurd (omega arith)
+tells-made false false size room told e = go (room <? size) refl e
+  where
+    go : (short : Bool) → (room <? size) ≡ short → (if short then OutputTooShort else Made size) ≡ Made told → Tells size told room
+    go true f g = let z : _≡_ {A = ℕ} 0 1 = cc in absurd (omega arith)
+    go false f g = let same : size ≡ told = cc in record { same = sym same; fits = ltb-false room size f }
+
+made-told : (version : ℕ) (payload output : List ℕ) (told : ℕ) → makingOf version payload output ≡ Made told → Told told (madeImage payload version) output
+unfolding makingOf
+made-told version payload output told e =
+    let t = tells-made (version =? 0) (mostRecords <? partsOf payload) (partsOf payload * 128) (length output) told e in
+    record { its-length = t .same ∙ sym (made-size payload version); room = omega (arith, t .same, t .fits) }
+
+tells-read : (found : Image) (image output : List ℕ) (told : ℕ) → readingIf found image output ≡ Read told → Tells (recordsOf image * 112) told (length output)
+tells-read (Bad reason number) image output told e = let z : _≡_ {A = ℕ} 0 1 = cc in absurd (omega arith)
+tells-read (Good version) image output told e = go (length output <? recordsOf image * 112) refl e
+  where
+    go : (short : Bool) → (length output <? recordsOf image * 112) ≡ short → (if short then ReadTooShort else Read (recordsOf image * 112)) ≡ Read told
+        → Tells (recordsOf image * 112) told (length output)
+    go true f g = let z : _≡_ {A = ℕ} 0 1 = cc in absurd (omega arith)
+    go false f g = let same : recordsOf image * 112 ≡ told = cc in record { same = sym same; fits = ltb-false (length output) (recordsOf image * 112) f }
+
+read-told : (image output : List ℕ) (told : ℕ) → readingOf image output ≡ Read told → Told told (payloadOf image) output
+unfolding readingOf
+read-told image output told e =
+    let t = tells-read (imageOf image) image output told e in
+    record { its-length = t .same ∙ sym (read-size image); room = omega (arith, t .same, t .fits) }
+
 pub request-T02 : RequestT02
-request-T02 = record { over-128-records = over-128-records; made-well = made-well; made-again = made-again }
+request-T02 =
+    record {
+      parts = parts-of;
+      over-128-records = over-128-records;
+      made-well = made-well;
+      made-again = made-again;
+      made-size = made-size;
+      read-size = read-size;
+      made-told = made-told;
+      read-told = read-told;
+    }
