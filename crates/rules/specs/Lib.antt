@@ -48,7 +48,6 @@ pub mod Refusals
 pub mod Table
 pub mod Thresholds
 pub mod Image
-pub mod Fault
 pub mod Transfer
 pub mod Security
 pub mod Module
@@ -72,4 +71,6 @@ pub mod Beside
 -- Document 02.
 pub mod Report
 pub mod Made
+-- T-03: the first fault, which a transfer keeps (Transfer.antt), and records from before.
+pub mod Fault
 pub mod Adopt

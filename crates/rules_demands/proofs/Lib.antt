@@ -11,5 +11,6 @@ pub mod Examples
 -- Document 02: reports over logs.
 pub mod Reports
 pub mod Images
+pub mod Faults
 -- That demand 3 is not empty: the incident at sea, computed.
 pub mod Incident

@@ -10,3 +10,5 @@ pub mod Examples
 pub mod Reports
 -- Images made and read back, by examples.
 pub mod Images
+-- The first fault by the bytes, and records from before.
+pub mod Faults

@@ -12,6 +12,7 @@ ghost use Rattle.rules_demands.specs.Beside.{BesideWrittenOut};
 ghost use Rattle.rules_demands.specs.Examples.{CasesHeld, TextsHeld};
 ghost use Rattle.rules_demands.specs.Reports.{ReportsWrittenOut, ReportsHeld};
 ghost use Rattle.rules_demands.specs.Images.{ImagesWrittenOut, ImagesHeld};
+ghost use Rattle.rules_demands.specs.Faults.{FaultsWrittenOut, AdoptingWrittenOut, FaultsHeld};
 
 // Any call gets an answer, and a refusal leaves what it must.
 pub fn demand_1()
@@ -50,8 +51,12 @@ pub fn request_t02()
     ensures { λ r. ⌜ ImagesHeld ⌝ }
 {}
 
-// Document 02, T-03: the fault that is named is the first, and there is none exactly where the image is good; and a record kept before is possible once taken over.
+// Document 02, T-03: the fault that is named is the first, and there is none exactly where the image is good; and a record kept before is possible once taken over;
+// both written out; and examples.
 pub fn request_t03()
     ensures { λ r. ⌜ RequestT03 ⌝ }
     ensures { λ r. ⌜ Adopting ⌝ }
+    ensures { λ r. ⌜ FaultsWrittenOut ⌝ }
+    ensures { λ r. ⌜ AdoptingWrittenOut ⌝ }
+    ensures { λ r. ⌜ FaultsHeld ⌝ }
 {}

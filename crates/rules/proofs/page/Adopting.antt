@@ -3,10 +3,10 @@
 use mathlib.Core.{Path.{_≡_, refl, sym, _∙_, ap, subst}, Logic._↔_, Bool.{Bool, true, false, not, _&&_, _||_}}
 use native.Mathlib.Omega.{arith}
 use Rattle.rules.specs.{Tests.{if_then_else_, _=?_}, With.{_with-phase_, _with-received_}}
-use Rattle.rules.specs.{Record.{_is_, possible, possibleNumbers, possibleFault, possibleTransfer, possibleSecurity, possibleThresholds}, Adopt.{possibleBefore, adoptable, idleAgain, adopted, Adopting}}
+use Rattle.rules.specs.{Record.{_is_, given, possible, possibleNumbers, possibleFault, possibleTransfer, possibleSecurity, possibleThresholds}, Adopt.{possibleBefore, adoptable, idleAgain, adopted, Adopting}}
 use Rattle.rules.specs.{declared.Phase.Phase, declared.Phase.the-variants.{Idle, Receiving, Verifying, Staged, Failed}, declared.Transfer.Transfer, declared.Device.Device}
 use borrow.Author.Tests.{eqb-true, lt-leb}
-use Rattle.rules.proofs.{page.Choice.{and-true, and-3}, page.Facts.{never, is-phase}, page.Keeps.{PhaseOk, tests, tested, faultTest, fault-tested}}
+use Rattle.rules.proofs.{page.Choice.{and-true, and-3, if-both}, page.Facts.{never, is-phase}, page.Keeps.{PhaseOk, tests, tested, faultTest, fault-tested}}
 
 -- what a record that was possible before has
 record Before (d : Device) : Type 0 where
@@ -81,4 +81,11 @@ possible-then d e = go (possible d) refl
 
 -- Of records kept before.
 pub adopting : Adopting
-adopting = record { possible-then = possible-then; failed-alone = failed-alone }
+adopting =
+    record {
+      possible-then = possible-then;
+      failed-alone = failed-alone;
+      as-it-is = λ d e. ap (λ (b : Bool). if b then d else idleAgain d) e;
+      else-idle = λ d e. ap (λ (b : Bool). if b then d else idleAgain d) e;
+      contexts-kept = λ d. if-both (λ (taken : Device). given (taken .transfer) ≡ given (d .transfer)) (possible d) refl refl;
+    }

@@ -283,7 +283,7 @@ module _ (bytes : List ℕ) where
       go (by-version p q r f) = fault-apart (sym e ∙ f)
       go (by-sum p q r t f) = fault-apart (sym e ∙ f)
 
-  good-at : (k : ℕ) → ((test : Reason) → passes test k bytes ≡ true) → goodRecord k n version (imageRecord k bytes) ≡ true
+  pub good-at : (k : ℕ) → ((test : Reason) → passes test k bytes ≡ true) → goodRecord k n version (imageRecord k bytes) ≡ true
   unfolding goodRecord
   good-at k all = go (k =? 0) refl
     where
