@@ -196,7 +196,7 @@ int32_t module_power(uint8_t *record, size_t record_len, const uint8_t *area, si
 
 /* A record that an older library may have kept, taken over: one in Failed, which has no reason, becomes Idle with received 0;
  * every other byte, and every byte of any other record, stays as it is. Once, after an update of the library, before anything
- * else; a second time changes nothing. Where the record is in slots: slots_read, module_adopt, then keep the record, as under
+ * else; a second time changes nothing. Where the record is in slots, as step 2 of "Each time that power comes back", under
  * "Power loss".
  *
  * Reads:   record.
@@ -223,9 +223,12 @@ int32_t module_adopt(uint8_t *record, size_t record_len);
  *
  * Each time that power comes back:
  *   1. slots_read into a record in ordinary memory.
- *   2. module_power on that record. A number below 0, here or from slots_read: these bytes were not kept so, and the module
- *      stays off.
- *   3. Keep the record, as below. Then the first call may come.
+ *   2. After an update of the library, where MODULE_RECORD_LAYOUT is not the number kept beside the slots: module_adopt on
+ *      that record. Without it a record of layout 1 in Failed gets R3 in the next step, each time.
+ *   3. module_power on that record. A number below 0, here, from module_adopt or from slots_read: these bytes were not kept
+ *      so, and the module stays off.
+ *   4. Keep the record, as below; after an update, then MODULE_RECORD_LAYOUT beside it, in this order, so that where power
+ *      goes between the two step 2 is done again, which changes nothing. Then the first call may come.
  *
  * A call:
  *   1. module_call on the record in ordinary memory. The answer stays in its buffer for now.

@@ -39,14 +39,32 @@ eight-ticks = ticks ++ ticks ++ ticks ++ ticks ++ ticks ++ ticks ++ ticks ++ tic
 abbrev sends-image : List ℕ
 sends-image = asks 1 14 (le 4 1 ++ le 4 0 ++ le 4 128 ++ le 2 0 ++ le 2 1 ++ le 8 1 ++ zeros 112 ++ (0x01 ∷ 0x00 ∷ 0x01 ∷ 0x00 ∷ []))
 
--- record i of an image of four, version 1, with this sum; and the four, of which the last has a sum that is one too low
-abbrev one-of-four : (i sum : ℕ) → List ℕ
-one-of-four i sum = le 2 i ++ le 2 4 ++ le 8 1 ++ zeros 112 ++ le 4 sum
+-- a record with this number, count, version and sum; record i of an image of four, version 1, with this sum; and four records, sent with context 1
+abbrev with-these : (number count version sum : ℕ) → List ℕ
+with-these number count version sum = le 2 number ++ le 2 count ++ le 8 version ++ zeros 112 ++ le 4 sum
 
-abbrev sends-four : List ℕ
-sends-four =
-    asks 1 14
-    (le 4 1 ++ le 4 0 ++ le 4 512 ++ one-of-four 0 0x40001 ++ one-of-four 1 0x40002 ++ one-of-four 2 0x40003 ++ one-of-four 3 0x40003)
+abbrev one-of-four : (i sum : ℕ) → List ℕ
+one-of-four i sum = with-these i 4 1 sum
+
+abbrev sends-four : (first second third fourth : List ℕ) → List ℕ
+sends-four first second third fourth = asks 1 14 (le 4 1 ++ le 4 0 ++ le 4 512 ++ first ++ second ++ third ++ fourth)
+
+-- four of which the last has a sum that is one too low
+abbrev wrong-sum : List ℕ
+wrong-sum = sends-four (one-of-four 0 0x40001) (one-of-four 1 0x40002) (one-of-four 2 0x40003) (one-of-four 3 0x40003)
+
+-- four of which one has a wrong number, count or version, and the sum of what it has
+abbrev wrong-number : List ℕ
+wrong-number = sends-four (one-of-four 0 0x40001) (one-of-four 1 0x40002) (with-these 5 4 1 0x40006) (one-of-four 3 0x40004)
+
+abbrev wrong-count : List ℕ
+wrong-count = sends-four (one-of-four 0 0x40001) (with-these 1 3 1 0x30002) (one-of-four 2 0x40003) (one-of-four 3 0x40004)
+
+abbrev wrong-version : List ℕ
+wrong-version = sends-four (one-of-four 0 0x40001) (one-of-four 1 0x40002) (one-of-four 2 0x40003) (with-these 3 4 2 0x40005)
+
+abbrev version-zero : List ℕ
+version-zero = sends-four (with-these 0 4 0 0x40000) (one-of-four 1 0x40002) (one-of-four 2 0x40003) (one-of-four 3 0x40004)
 
 abbrev finishes : List ℕ
 finishes = asks 1 15 (zeros 4 ++ le 4 1)
@@ -71,10 +89,23 @@ texts =
     prints heading
     ++ ascii "0 call 0 0 8\n1 call 0 0 4\n2 tick\n3 tick\n4 tick\n5 tick\n6 tick\n7 tick\n8 tick\n9 tick\n10 call 7 3 12\nend failed 1 size 0\n")
     -- document 02, T-03: "as in `end failed 1 sum 3`"
-    ∷ (asks 1 13 [] ++ sends-four ++ finishes ++ eight-ticks
+    ∷ (asks 1 13 [] ++ wrong-sum ++ finishes ++ eight-ticks
     prints heading
     ++ ascii "0 call 0 0 8\n1 call 0 0 4\n2 call 0 0 4\n3 tick\n4 tick\n5 tick\n6 tick\n7 tick\n8 tick\n9 tick\n10 tick\nend failed 1 sum 3\n")
     ∷ (asks 1 13 [] ++ sends-image ++ finishes ++ eight-ticks
     prints heading
     ++ ascii "0 call 0 0 8\n1 call 0 0 4\n2 call 0 0 4\n3 tick\n4 tick\n5 tick\n6 tick\n7 tick\n8 tick\n9 tick\n10 tick\nend staged 1\n")
+    -- and each other reason: in the third record, in the second, in the last, and a version of zero in the first
+    ∷ (asks 1 13 [] ++ wrong-number ++ finishes ++ eight-ticks
+    prints heading
+    ++ ascii "0 call 0 0 8\n1 call 0 0 4\n2 call 0 0 4\n3 tick\n4 tick\n5 tick\n6 tick\n7 tick\n8 tick\n9 tick\n10 tick\nend failed 1 number 2\n")
+    ∷ (asks 1 13 [] ++ wrong-count ++ finishes ++ eight-ticks
+    prints heading
+    ++ ascii "0 call 0 0 8\n1 call 0 0 4\n2 call 0 0 4\n3 tick\n4 tick\n5 tick\n6 tick\n7 tick\n8 tick\n9 tick\n10 tick\nend failed 1 count 1\n")
+    ∷ (asks 1 13 [] ++ wrong-version ++ finishes ++ eight-ticks
+    prints heading
+    ++ ascii "0 call 0 0 8\n1 call 0 0 4\n2 call 0 0 4\n3 tick\n4 tick\n5 tick\n6 tick\n7 tick\n8 tick\n9 tick\n10 tick\nend failed 1 version 3\n")
+    ∷ (asks 1 13 [] ++ version-zero ++ finishes ++ eight-ticks
+    prints heading
+    ++ ascii "0 call 0 0 8\n1 call 0 0 4\n2 call 0 0 4\n3 tick\n4 tick\n5 tick\n6 tick\n7 tick\n8 tick\n9 tick\n10 tick\nend failed 1 version 0\n")
     ∷ []

@@ -92,5 +92,9 @@ pub record TextsHeld : Type 0 where
       ∷ ascii "record kind status ext length\n0 call 0 0 8\n1 call 0 0 4\n2 tick\n3 tick\n4 tick\n5 tick\n6 tick\n7 tick\n8 tick\n9 tick\n10 call 7 3 12\nend failed 1 size 0\n"
       ∷ ascii "record kind status ext length\n0 call 0 0 8\n1 call 0 0 4\n2 call 0 0 4\n3 tick\n4 tick\n5 tick\n6 tick\n7 tick\n8 tick\n9 tick\n10 tick\nend failed 1 sum 3\n"
       ∷ ascii "record kind status ext length\n0 call 0 0 8\n1 call 0 0 4\n2 call 0 0 4\n3 tick\n4 tick\n5 tick\n6 tick\n7 tick\n8 tick\n9 tick\n10 tick\nend staged 1\n"
+      ∷ ascii "record kind status ext length\n0 call 0 0 8\n1 call 0 0 4\n2 call 0 0 4\n3 tick\n4 tick\n5 tick\n6 tick\n7 tick\n8 tick\n9 tick\n10 tick\nend failed 1 number 2\n"
+      ∷ ascii "record kind status ext length\n0 call 0 0 8\n1 call 0 0 4\n2 call 0 0 4\n3 tick\n4 tick\n5 tick\n6 tick\n7 tick\n8 tick\n9 tick\n10 tick\nend failed 1 count 1\n"
+      ∷ ascii "record kind status ext length\n0 call 0 0 8\n1 call 0 0 4\n2 call 0 0 4\n3 tick\n4 tick\n5 tick\n6 tick\n7 tick\n8 tick\n9 tick\n10 tick\nend failed 1 version 3\n"
+      ∷ ascii "record kind status ext length\n0 call 0 0 8\n1 call 0 0 4\n2 call 0 0 4\n3 tick\n4 tick\n5 tick\n6 tick\n7 tick\n8 tick\n9 tick\n10 tick\nend failed 1 version 0\n"
       ∷ []
   pub begins : replayStart ≡ record { device = fresh; area = replicate 16384 0 }
