@@ -43,10 +43,8 @@ pub record FaultsWrittenOut : Type 0 where
   pub size : (bytes : List ℕ) (i : ℕ) → (firstFault bytes ≡ (Size of-record i)) ↔ ((sized bytes ≡ false) × (i ≡ 0))
   pub number : (bytes : List ℕ) (i : ℕ) → (firstFault bytes ≡ (Number of-record i)) ↔ (Reached i bytes × (numbered i bytes ≡ false))
   pub count : (bytes : List ℕ) (i : ℕ) → (firstFault bytes ≡ (Count of-record i)) ↔ (Reached i bytes × (numbered i bytes ≡ true) × (counted i bytes ≡ false))
-  pub version : (bytes : List ℕ) (i : ℕ)
-      → (firstFault bytes ≡ (Version of-record i)) ↔ (Reached i bytes × (numbered i bytes ≡ true) × (counted i bytes ≡ true) × (versioned i bytes ≡ false))
-  pub sum : (bytes : List ℕ) (i : ℕ)
-      → (firstFault bytes ≡ (Sum of-record i)) ↔ (Reached i bytes × (numbered i bytes ≡ true) × (counted i bytes ≡ true) × (versioned i bytes ≡ true) × (summed i bytes ≡ false))
+  pub version : (bytes : List ℕ) (i : ℕ) → (firstFault bytes ≡ (Version of-record i)) ↔ (Reached i bytes × (numbered i bytes ≡ true) × (counted i bytes ≡ true) × (versioned i bytes ≡ false))
+  pub sum : (bytes : List ℕ) (i : ℕ) → (firstFault bytes ≡ (Sum of-record i)) ↔ (Reached i bytes × (numbered i bytes ≡ true) × (counted i bytes ≡ true) × (versioned i bytes ≡ true) × (summed i bytes ≡ false))
   pub good-before : (bytes : List ℕ) (reason : Reason) (i j : ℕ) → firstFault bytes ≡ (reason of-record i) → j < i
       → goodRecord j (length bytes / 128) (numberAt 8 4 bytes) (bytesOf j bytes) ≡ true
   pub told-good : (bytes : List ℕ) (version : ℕ) → (imageOf bytes ≡ Good version) ↔ ((goodImage bytes ≡ true) × (version ≡ numberAt 8 4 bytes))
