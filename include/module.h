@@ -245,7 +245,7 @@ int32_t module_adopt(uint8_t *record, size_t record_len);
  * The area may tear, or be lost with ordinary memory, and needs no flush: after a power cycle the module is Idle with no
  * bytes received, and nothing of the area is read before it has been sent again. A staged version is a number in the record.
  *
- * examples/two_hosts.c does all of it. */
+ * examples/two_hosts.c does all of it but what an update of the library asks for: its slots are its own and new. */
 
 #define MODULE_REFUSED (-1) /* what the four slots_ functions answer where they did nothing */
 
