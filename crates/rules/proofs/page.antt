@@ -31,3 +31,4 @@ pub mod Reports
 pub mod NoneAbove
 pub mod Sums
 pub mod Adopting
+pub mod Health

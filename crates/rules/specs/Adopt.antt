@@ -4,7 +4,7 @@
 use mathlib.Core.{Path._≡_, Logic._↔_, Bool.{Bool, true, false, _&&_, _||_}}
 use Rattle.rules.specs.Tests.{if_then_else_, _=?_}
 use Rattle.rules.specs.With.{_with-phase_, _with-received_, _with-transfer_}
-use Rattle.rules.specs.Record.{given, possible, possibleNumbers, possibleSecurity, possibleThresholds}
+use Rattle.rules.specs.Record.{given, possible, possibleNumbers, possibleSecurity, possibleThresholds, possibleReading}
 use Rattle.rules.specs.declared.{Phase.the-variants.{Idle, Failed}, Device.Device}
 
 -- possible before T-03: as document 01 says, and with no fault kept
@@ -13,6 +13,7 @@ possibleBefore d =
     (possibleNumbers (d .transfer) && (d .transfer .reason =? 0 && d .transfer .faulty =? 0))
     && possibleSecurity (d .security)
     && possibleThresholds (d .thresholds)
+    && possibleReading (d .reading)
 
 abbrev pub adoptable : Device → Bool
 adoptable d = possible d || possibleBefore d

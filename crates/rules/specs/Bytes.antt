@@ -44,6 +44,10 @@ same? (x ∷ xs) (y ∷ ys) = x =? y && same? xs ys
 abbrev pub splice : ℕ → (new old : List ℕ) → List ℕ
 splice place new old = take place old ++ (new ++ drop (place + length new) old)
 
+-- whether bit k of n is on
+abbrev pub on : (k n : ℕ) → Bool
+on k n = (n / 2 ^ k) % 2 =? 1
+
 -- bit k, if it is on
 abbrev pub bit : ℕ → Bool → ℕ
 bit k on = if on then 2 ^ k else 0

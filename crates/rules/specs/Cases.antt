@@ -1,4 +1,4 @@
--- Document 01, "Cases for the bench": those marked P, as rows of one list. That every row holds is the one claim of proofs/Claim.antt.
+-- Document 01, "Cases for the bench": those marked P, as rows of one list; and document 02, T-04: function 1. That every row holds is the one claim of proofs/Claim.antt.
 -- Assumes nothing.
 use Prim.Native.Nat.{ℕ, zero, suc, _+_}
 use mathlib.Core.{Bool.{Bool, true, _&&_}, List.{List, [], _∷_, _++_}}
@@ -8,15 +8,17 @@ use Rattle.rules.specs.Bytes.{le, zeros, same?}
 use Rattle.rules.specs.Numbers.{areaSize}
 use Rattle.rules.specs.With.{_with-transfer_, _with-phase_, _with-contexts_, _with-received_}
 use Rattle.rules.specs.Record.{_is_, fresh, Module, moduleOf}
-use Rattle.rules.specs.Module.{Result, Event, call, tick, step}
+use Rattle.rules.specs.Health.{readingOf}
+use Rattle.rules.specs.Module.{Result, Event, call, tick, reading, step}
 use Rattle.rules.specs.Replay.{replayStart}
 use Rattle.rules.specs.declared.Phase.the-variants.{Receiving, Staged, Failed}
 
--- What a case does: it makes a call and expects these answer bytes, or lets ticks pass.
+-- What a case does: it makes a call and expects these answer bytes, lets ticks pass, or takes a health reading.
 infix 68 _gets_
 pub data Deed : Type 0 where
   _gets_ : Event → List ℕ → Deed
   passing : (ticks : ℕ) → Deed
+  measuring : (spare media controller : ℕ) → Deed
 
 -- A row: the module that the case begins with; what is done; and what the case says of record and area in the end.
 pub record Case : Type 0 where
@@ -24,9 +26,9 @@ pub record Case : Type 0 where
   pub deeds : List Deed
   pub ends : Module → Bool
 
--- Every call is lent 64 bytes of 255, so that an answer byte left unwritten, or one written past the answer, shows.
+-- Every call is lent 132 bytes of 255, so that an answer byte left unwritten, or one written past the answer, shows.
 abbrev buffer : List ℕ
-buffer = replicate 64 255
+buffer = replicate 132 255
 
 -- the answer is the one expected, of its length, and the buffer's other bytes are as they came
 abbrev as-expected : Result → (expected : List ℕ) → Bool
@@ -41,6 +43,7 @@ abbrev holdsFrom : Module → List Deed → (Module → Bool) → Bool
 holdsFrom m [] ends = ends m
 holdsFrom m ((event gets expected) ∷ deeds) ends = as-expected (step m event) expected && holdsFrom (step m event .after) deeds ends
 holdsFrom m (passing ticks ∷ deeds) ends = holdsFrom (after-ticks ticks m) deeds ends
+holdsFrom m (measuring spare media controller ∷ deeds) ends = holdsFrom (step m (reading (readingOf spare media controller)) .after) deeds ends
 
 abbrev pub holds : Case → Bool
 holds c = holdsFrom (c .from) (c .deeds) (c .ends)
@@ -106,6 +109,10 @@ abbrev repeated : ℕ → Deed → List Deed
 repeated zero deed = []
 repeated (suc n) deed = deed ∷ repeated n deed
 
+-- the first 20 bytes of function 1's answer, and the zeros after them
+abbrev health : (first : List ℕ) → List ℕ
+health first = first ++ zeros 112
+
 -- what a case may say of the end
 abbrev failed : Module → Bool
 failed m = m .device .transfer .phase is Failed
@@ -134,9 +141,9 @@ case deeds = case-to deeds (λ m. true)
 
 abbrev pub cases : List Case
 cases =
-    -- "function 0 at revisions 2, 1 and 3, as above."
-    case (at-revision 2 0 [] gets (0x05 ∷ 0xF0 ∷ 0xFB ∷ 0x00 ∷ []) ∷ [])
-    ∷ case (at-revision 1 0 [] gets (0x05 ∷ 0x00 ∷ 0x00 ∷ 0x00 ∷ []) ∷ [])
+    -- "function 0 at revisions 2, 1 and 3, as above." Document 02, T-04: "Function 0 gains bit 1 at both", 07 in the place of 05.
+    case (at-revision 2 0 [] gets (0x07 ∷ 0xF0 ∷ 0xFB ∷ 0x00 ∷ []) ∷ [])
+    ∷ case (at-revision 1 0 [] gets (0x07 ∷ 0x00 ∷ 0x00 ∷ 0x00 ∷ []) ∷ [])
     ∷ case (at-revision 3 0 [] gets (0x00 ∷ 0x00 ∷ 0x00 ∷ 0x00 ∷ []) ∷ [])
     -- "function 18, revision 2: status 1, 4 bytes."
     ∷ case (ask 18 [] gets status 1 ∷ [])
@@ -160,4 +167,15 @@ cases =
     (set-passphrase (replicate 32 9) gets status 0
     ∷ repeated 10 (disable (replicate 32 8) gets status 11)
     ++ (disable (replicate 32 9) gets status 10 ∷ []))
+    -- document 02, T-04: function 1 on a fresh module, at revisions 2 and 1; its flags are 0000021Ah
+    ∷ case
+    (at-revision 2 1 [] gets health (0 ∷ 0 ∷ 0 ∷ 0 ∷ 0x1A ∷ 0x02 ∷ 0 ∷ 0 ∷ 0 ∷ 0 ∷ 0 ∷ 0 ∷ 0 ∷ 0 ∷ 0 ∷ 0 ∷ 0 ∷ 0 ∷ 0 ∷ 0 ∷ [])
+    ∷ at-revision 1 1 [] gets health (0 ∷ 0 ∷ 0 ∷ 0 ∷ 0x1A ∷ 0x02 ∷ 0 ∷ 0 ∷ 0 ∷ 0 ∷ 0 ∷ 0 ∷ 0 ∷ 0 ∷ 0 ∷ 0 ∷ 0 ∷ 0 ∷ 0 ∷ 0 ∷ [])
+    ∷ [])
+    -- and with all three alarms tripped: spare 19 below 20; media 0501h above 0500h; controller 8000h, which is 0, above 8001h
+    ∷ case
+    (ask 17 (0x07 ∷ 0x00 ∷ 20 ∷ 0x00 ∷ 0x05 ∷ 0x01 ∷ 0x80 ∷ []) gets status 0
+    ∷ measuring 19 0x0501 0x8000
+    ∷ ask 1 [] gets health (0 ∷ 0 ∷ 0 ∷ 0 ∷ 0x1A ∷ 0x02 ∷ 0 ∷ 0 ∷ 0 ∷ 0 ∷ 0 ∷ 0 ∷ 0 ∷ 19 ∷ 0 ∷ 0x07 ∷ 0x01 ∷ 0x05 ∷ 0x00 ∷ 0x80 ∷ [])
+    ∷ [])
     ∷ []

@@ -13,8 +13,9 @@ use Rattle.rules.specs.Numbers.{areaSize, answerRoom}
 use Rattle.rules.specs.Record.{fresh, possible, Module}
 use Rattle.rules.specs.Refusals.{verdict, statusBytes, answerAfter, oneAttemptMore}
 use Rattle.rules.specs.Table.{rowOf}
-use Rattle.rules.specs.Module.{Result, callChecks, callResult, Event, call, tick, power, step}
+use Rattle.rules.specs.Module.{Result, callChecks, callResult, readingChecks, kept, readingResult, Event, call, tick, power, reading, step}
 use Rattle.rules.specs.declared.{Function.the-variants.Mask, Row.Row, Refusal.Refusal, Refusal.the-variants.{R, Status}, Verdict.the-variants.{Accepted, Refused}}
+use Rattle.rules.specs.declared.Reading.{Reading}
 
 -- the refusal numbers of document 01, in its table's order: these are given, each by some call, and no other is. When each is given, the checks say.
 abbrev pub refusalNumbers : List Refusal
@@ -93,17 +94,47 @@ abbrev pub bufferTooShort : Event → Bool
 bufferTooShort (call host revision index request answer) = length answer <? answerRoom
 bufferTooShort tick = false
 bufferTooShort power = false
+bufferTooShort (reading new) = false
 
--- Every event, a call, a tick or a power cycle, takes a possible record to a possible record and keeps the area's size; and it gives no R number but R1, for
--- an answer buffer that is too short.
+-- a new reading's spare is over 100
+abbrev pub spareOver100 : Event → Bool
+spareOver100 (call host revision index request answer) = false
+spareOver100 tick = false
+spareOver100 power = false
+spareOver100 (reading new) = 100 <? new .spare
+
+-- document 02, T-04: "a reading gives R2, R3 and R4 only."
+abbrev pub readingNumbers : List Refusal
+readingNumbers = R 2 ∷ R 3 ∷ R 4 ∷ []
+
+-- some reading on some record is refused by it
+pub record GivenByReading (refusal : Refusal) : Type 0 where
+  pub found : Module
+  pub new : Reading
+  pub refused : readingResult found new .reply .verdict ≡ Refused refusal
+
+-- Demand 1 of a reading: its checks decide; refused, it changes nothing; accepted, it is kept, and everything else stays. It writes no answer.
+pub record OfReading (m : Module) (new : Reading) : Type 0 where
+  pub judged : readingResult m new .reply .verdict ≡ verdict (readingChecks m new)
+  pub numbers : (refusal : Refusal) → readingResult m new .reply .verdict ≡ Refused refusal → Among readingNumbers refusal
+  pub leaves : (refusal : Refusal) → readingResult m new .reply .verdict ≡ Refused refusal → readingResult m new .after ≡ m
+  pub keeps : readingResult m new .reply .verdict ≡ Accepted → readingResult m new .after ≡ kept m new
+  pub silent : (readingResult m new .reply .length ≡ 0) × (readingResult m new .answer ≡ [])
+
+-- Every event, a call, a tick, a power cycle or a reading, takes a possible record to a possible record and keeps the area's size; and it gives no R number
+-- but R1, for an answer buffer that is too short, and R4, for a reading whose spare is over 100.
 pub record OfEvent (m : Module) (event : Event) : Type 0 where
   pub stays-possible : possible (step m event .after .device) ≡ true
   pub keeps-size : length (step m event .after .area) ≡ areaSize
-  pub only-R1 : (number : ℕ) → step m event .reply .verdict ≡ Refused (R number) → (number ≡ 1) × (bufferTooShort event ≡ true)
+  pub only-R1-R4 : (number : ℕ) → step m event .reply .verdict ≡ Refused (R number)
+      → ((number ≡ 1) × (bufferTooShort event ≡ true)) ⊎ ((number ≡ 4) × (spareOver100 event ≡ true))
 
--- Demand 1: any call with any bytes and any device record; every number of the table is given by some call; and a fresh module's record is possible, so that what is said of events holds from there on.
+-- Demand 1: any call with any bytes and any device record, and any reading; every number of the table is given by some call, and every number of a reading by some
+-- reading; and a fresh module's record is possible, so that what is said of events holds from there on.
 pub record Demand1 : Type 0 where
   pub calls : (m : Module) (revision index : ℕ) (request answer : List ℕ) → OfCall m revision index request answer
   pub each-given : (refusal : Refusal) → Numbered refusal → GivenBySome refusal
+  pub readings : (m : Module) (new : Reading) → OfReading m new
+  pub each-by-reading : (refusal : Refusal) → Among readingNumbers refusal → GivenByReading refusal
   pub events : (m : Module) (event : Event) → possible (m .device) ≡ true → length (m .area) ≡ areaSize → OfEvent m event
   pub fresh-possible : possible fresh ≡ true

@@ -1,4 +1,5 @@
--- Demand 3, sentence by sentence, over any history of raw calls, ticks and power cycles. docs/DEMAND-3.md walks through it.
+-- Demand 3, sentence by sentence, over any history of raw calls, ticks, power cycles and readings. Document 02, T-04: "Demand 3 lets readings move like other
+-- events." docs/DEMAND-3.md walks through it.
 -- Assumes nothing.
 use Prim.Native.Nat.{ℕ, _≤_, _<_}
 use mathlib.Core.{Path._≡_, Logic.{_⊎_, _↔_}, Bool.{Bool, true, false, _&&_}, List.{List, _∷_}}
@@ -21,7 +22,8 @@ use Rattle.rules.specs.declared.Phase.the-variants.{Staged}
 abbrev pub freshWith : (area : List ℕ) → Module
 freshWith area = moduleOf fresh area
 
--- "Strike out the refused calls except wrong passphrases." R numbers are refusals; a wrong passphrase is status 11.
+-- "Strike out the refused calls except wrong passphrases." R numbers are refusals, a reading's too; a wrong passphrase is status
+-- 11.
 abbrev pub remains : Verdict → Bool
 remains Accepted = true
 remains (Refused (R number)) = false
@@ -83,7 +85,7 @@ pub record Stages (m : Module) (event : Event) (version : ℕ) : Type 0 where
   pub afterwards : stagedWith version (step m event .after) ≡ true
 
 -- A staging is due: the history has an accepted, non-abort Finish of a transfer whose pieces, joined, are a good image of this version; after it come
--- exactly seven ticks, no power cycle, and any other calls.
+-- exactly seven ticks, no power cycle, and any other calls and readings.
 pub record Due (h : History) (version : ℕ) : Type 0 where
   pub transfer : FinishedIn h
   pub no-abort : transfer .flag ≡ 0
@@ -145,7 +147,7 @@ pub record Demand3Of (m : Module) (h : History) : Type 0 where
   pub one-waits : OneWaits (struck h)
   pub never-again : NeverAgain (struck h)
 
--- "Begin with a fresh module, .. and let hosts' calls, ticks and power cycles come in any order, each host using only context numbers that a Start answered
+-- "Begin with a fresh module, .. and let hosts' calls, ticks and power cycles [and readings] come in any order, each host using only context numbers that a Start answered
 -- to it."
 abbrev pub Demand3 : Type 0
 Demand3 =

@@ -4,7 +4,7 @@ use Prim.Native.Nat.{ℕ, _≤_}
 use mathlib.Core.{Path._≡_, Logic._⊎_, List.{List, [], _∷_}}
 use lib.ListN.{length}
 use Rattle.rules.specs.Transfer.{GetFwInfo, Start, Send, Finish, Query}
-use Rattle.rules.specs.Module.{Call, OnMask, OnThresholds, OnTransfer, OnSecurity, OnNothing, Event, call, tick, power, callIn}
+use Rattle.rules.specs.Module.{Call, OnMask, OnHealth, OnThresholds, OnTransfer, OnSecurity, OnNothing, Event, call, tick, power, reading, callIn}
 use Rattle.rules.specs.History.{Throughout}
 use Rattle.rules.specs.Transfers.{Exchange, History, Started, kindOf}
 
@@ -12,6 +12,7 @@ use Rattle.rules.specs.Transfers.{Exchange, History, Started, kindOf}
 -- in bytes 4 to 7. A request too short to carry it uses none.
 abbrev pub Carries : Call → (request : List ℕ) (context : ℕ) → Type 0
 Carries (OnMask revision) request context = ⊥
+Carries OnHealth request context = ⊥
 Carries (OnThresholds asked) request context = ⊥
 Carries (OnTransfer GetFwInfo) request context = ⊥
 Carries (OnTransfer Start) request context = ⊥
@@ -26,6 +27,7 @@ abbrev pub Uses : Event → (host context : ℕ) → Type 0
 Uses (call caller revision index request answer) host context = (host ≡ caller) × Carries (callIn revision index request) request context
 Uses tick host context = ⊥
 Uses power host context = ⊥
+Uses (reading new) host context = ⊥
 
 -- an accepted Start of the history answered the context to the host
 abbrev pub AnsweredTo : (host context : ℕ) → History → Type 0

@@ -47,6 +47,7 @@ pub mod Record
 pub mod Refusals
 pub mod Table
 pub mod Thresholds
+pub mod Health
 pub mod Image
 pub mod Transfer
 pub mod Security

@@ -5,7 +5,7 @@ use mathlib.Core.{Bool.{Bool, not, _&&_}, List.List}
 use lib.ListN.{length, take, drop}
 use Rattle.rules.specs.Tests.{if_then_else_, _≤?_, _=?_}
 use Rattle.rules.specs.Bytes.{numberAt, zeros?}
-use Rattle.rules.specs.declared.{Entry.Entry, Entry.the-variants.{Call, Tick, Power, Bad}}
+use Rattle.rules.specs.declared.{Entry.Entry, Entry.the-variants.{Call, Tick, Power, Health, Bad}}
 
 -- "544-byte records"
 abbrev pub recordSize : ℕ
@@ -42,6 +42,20 @@ goodCall bytes = (1 ≤? hostIn bytes) && (hostIn bytes ≤? 4) && (lengthIn byt
 abbrev pub bare : List ℕ → Bool
 bare bytes = zeros? (drop 1 bytes)
 
+-- document 02, T-04: "log kind 4, its five bytes at 8 to 12" (B18)
+abbrev pub spareIn : List ℕ → ℕ
+spareIn bytes = numberAt 1 8 bytes
+
+abbrev pub mediaIn : List ℕ → ℕ
+mediaIn bytes = numberAt 2 9 bytes
+
+abbrev pub controllerIn : List ℕ → ℕ
+controllerIn bytes = numberAt 2 11 bytes
+
+-- "The record's other bytes are zero, .. and a record with spare over 100 is bad."
+abbrev pub goodReading : List ℕ → Bool
+goodReading bytes = zeros? (take 7 (drop 1 bytes)) && zeros? (drop 13 bytes) && (spareIn bytes ≤? 100)
+
 -- "Any other record is bad and skipped." A tail of less than a record is not asked: it is short.
 unfoldable pub entryOf : List ℕ → Entry
 entryOf bytes =
@@ -49,6 +63,7 @@ entryOf bytes =
     else if kindIn bytes =? 1 && goodCall bytes then Call (hostIn bytes) (revisionIn bytes) (functionIn bytes) (lengthIn bytes)
     else if kindIn bytes =? 2 && bare bytes then Tick
     else if kindIn bytes =? 3 && bare bytes then Power
+    else if kindIn bytes =? 4 && goodReading bytes then Health (spareIn bytes) (mediaIn bytes) (controllerIn bytes)
     else Bad
 
 -- the whole records of a log, and record j of them

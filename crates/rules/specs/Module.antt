@@ -1,23 +1,25 @@
 -- Document 01, "What the module model covers": "device record, staging area and one call, tick or power cycle go in; answer bytes and the new record and
--- area come out." Bytes are decoded to a call; its checks are made in the page's order; then the step; then the answer's bytes. Record and area go in and come
+-- area come out." Document 02, T-04: a health reading "becomes a fourth event". Bytes are decoded to a call; its checks are made in the page's order; then the step; then the answer's bytes. Record and area go in and come
 -- out as one, a `Module`.
 -- Assumes nothing.
 use Prim.Native.Nat.{ℕ}
 use mathlib.Core.List.{List, [], _∷_, _++_}
 use Rattle.rules.specs.Bytes.{le}
-use Rattle.rules.specs.With.{_with-transfer_, _with-thresholds_, _with-security_}
+use Rattle.rules.specs.With.{_with-transfer_, _with-thresholds_, _with-security_, _with-reading_}
 use Rattle.rules.specs.Record.{Module, _with-device_, _with-area_}
 use Rattle.rules.specs.Refusals.{Check, verdict, R1Check, eventChecks, statusBytes, statusLength, statusAnswer, answerAfter, moduleLeft}
 use Rattle.rules.specs.Table.{rowOf, servedCheck, lengthCheck, mask}
 use Rattle.rules.specs.Thresholds.{ThresholdCall, GetThreshold, setThresholdOf, thresholdChecks, thresholdAnswer, thresholdChange}
+use Rattle.rules.specs.Health.{healthAnswer, R4Check}
 use Rattle.rules.specs.Transfer.{TransferCall, GetFwInfo, Start, sendOf, finishOf, queryOf, transferChecks, transferAnswer, transferChange, transferArea, tickChange, transferPower}
 use Rattle.rules.specs.Security.{SecurityCall, GetSecurityState, setPassphraseOf, Disable, Unlock, Freeze, securityChecks, securityAnswer, securityChange, securityPower}
-use Rattle.rules.specs.declared.{Refusal.the-variants.{R, Status}, Verdict.Verdict, Verdict.the-variants.{Accepted, Refused}, Reply.Reply, Function.Function}
+use Rattle.rules.specs.declared.{Refusal.the-variants.{R, Status}, Verdict.Verdict, Verdict.the-variants.{Accepted, Refused}, Reply.Reply, Function.Function, Reading.Reading}
 use Rattle.rules.specs.declared.Function.the-variants as Function′
 
--- a call, decoded: function 0 with its revision, or a call on one part of the record; an index that the table lacks, to which status 1 comes first
+-- a call, decoded: function 0 with its revision; function 1, which reads; or a call on one part of the record; an index that the table lacks, to which status 1 comes first
 pub data Call : Type 0 where
   OnMask : (revision : ℕ) → Call
+  OnHealth : Call
   OnThresholds : ThresholdCall → Call
   OnTransfer : TransferCall → Call
   OnSecurity : SecurityCall → Call
@@ -27,6 +29,7 @@ pub data Call : Type 0 where
 -- its length refuses it before any check of its fields.
 abbrev pub callOf : Function → (revision : ℕ) (request : List ℕ) → Call
 callOf Function′.Mask revision request = OnMask revision
+callOf Function′.GetHealth revision request = OnHealth
 callOf Function′.GetThreshold revision request = OnThresholds GetThreshold
 callOf Function′.GetFwInfo revision request = OnTransfer GetFwInfo
 callOf Function′.Start revision request = OnTransfer Start
@@ -48,6 +51,7 @@ callIn revision index request = callOf (rowOf index .function) revision request
 -- each function's checks
 abbrev pub checks : Module → Call → List Check
 checks m (OnMask revision) = []
+checks m OnHealth = []
 checks m (OnThresholds asked) = thresholdChecks asked
 checks m (OnTransfer asked) = transferChecks (m .device .transfer) asked
 checks m (OnSecurity asked) = securityChecks (m .device .security) asked
@@ -57,6 +61,7 @@ checks m OnNothing = []
 -- accepted, so that its line is never used.
 abbrev pub acceptedAnswer : Module → Call → List ℕ
 acceptedAnswer m (OnMask revision) = le 4 (mask revision)
+acceptedAnswer m OnHealth = statusBytes 0 0 ++ healthAnswer (m .device .thresholds) (m .device .reading)
 acceptedAnswer m (OnThresholds asked) = statusBytes 0 0 ++ thresholdAnswer (m .device .thresholds) asked
 acceptedAnswer m (OnTransfer asked) = statusBytes 0 0 ++ transferAnswer (m .device .transfer) asked
 acceptedAnswer m (OnSecurity asked) = statusBytes 0 0 ++ securityAnswer (m .device .security) asked
@@ -65,6 +70,7 @@ acceptedAnswer m OnNothing = statusBytes 0 0
 -- the module after an accepted call: each works on its part of the record, and a transfer's call on the area too
 abbrev pub change : Module → Call → Module
 change m (OnMask revision) = m
+change m OnHealth = m
 change m (OnThresholds asked) = m with-device (m .device with-thresholds (thresholdChange (m .device .thresholds) asked))
 change m (OnTransfer asked) =
     m with-device (m .device with-transfer (transferChange (m .device .transfer) asked)) with-area (transferArea asked (m .area))
@@ -106,7 +112,7 @@ unfoldable pub callResult : Module → (revision index : ℕ) (request answer : 
 callResult m revision index request answer =
     outcome (verdict (callChecks m revision index request answer)) m (callIn revision index request) (rowOf index .answer) answer
 
--- what a verdict on a tick or a power cycle comes to; no buffer is lent, so that the answer is the empty list
+-- what a verdict on a tick, a power cycle or a reading comes to; no buffer is lent, so that the answer is the empty list
 abbrev pub happened : Verdict → (changed was : Module) → Result
 happened Accepted changed was = record { reply = reply Accepted 0; after = changed; answer = [] }
 happened (Refused refusal) changed was = record { reply = reply (Refused refusal) 0; after = was; answer = [] }
@@ -119,7 +125,7 @@ ticked m = m with-device (m .device with-transfer (tickChange (m .device .transf
 unfoldable pub tickResult : Module → Result
 tickResult m = happened (verdict (eventChecks m)) (ticked m) m
 
--- the module after an accepted power cycle: "Contexts, thresholds, passphrase and area stay."
+-- the module after an accepted power cycle: "Contexts, thresholds, passphrase and area stay." Document 02, T-04: "power cycles keep the last one [reading]".
 abbrev pub powered : Module → Module
 powered m =
     m with-device (m .device with-transfer (transferPower (m .device .transfer)) with-security (securityPower (m .device .security)))
@@ -128,14 +134,28 @@ powered m =
 unfoldable pub powerResult : Module → Result
 powerResult m = happened (verdict (eventChecks m)) (powered m) m
 
--- An event: a host's call, lent that host's answer buffer; a tick; a power cycle. Which host calls plays no part in the answer.
+-- the checks of a reading: "spare over 100 in a new reading is R4, after R3; a reading gives R2, R3 and R4 only."
+abbrev pub readingChecks : Module → Reading → List Check
+readingChecks m new = eventChecks m ++ (R4Check new ∷ [])
+
+-- the module after an accepted reading: "the device record keeps the last one."
+abbrev pub kept : Module → Reading → Module
+kept m new = m with-device (m .device with-reading new)
+
+-- A health reading.
+unfoldable pub readingResult : Module → Reading → Result
+readingResult m new = happened (verdict (readingChecks m new)) (kept m new) m
+
+-- An event: a host's call, lent that host's answer buffer; a tick; a power cycle; a health reading. Which host calls plays no part in the answer.
 pub data Event : Type 0 where
   call : (host revision index : ℕ) (request answer : List ℕ) → Event
   tick : Event
   power : Event
+  reading : (new : Reading) → Event
 
 -- The whole module: what comes out of an event.
 abbrev pub step : Module → Event → Result
 step m (call host revision index request answer) = callResult m revision index request answer
 step m tick = tickResult m
 step m power = powerResult m
+step m (reading new) = readingResult m new

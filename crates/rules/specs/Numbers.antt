@@ -10,9 +10,9 @@ areaSize = 16384
 abbrev pub longestPiece : ℕ
 longestPiece = 512
 
--- "Answer buffer at least 64."
+-- "Answer buffer at least 64." Document 02, T-04, in its place: "R1 now reads 132" (docs/DECISIONS.md, B14).
 abbrev pub answerRoom : ℕ
-answerRoom = 64
+answerRoom = 132
 
 -- "Verification 8 ticks;"
 abbrev pub verification : ℕ

@@ -7,7 +7,7 @@ use Rattle.rules.specs.Tests.{_≤?_, _<?_, _=?_, _implies_, _unless_}
 use Rattle.rules.specs.Bytes.{zeros, zeros?}
 use Rattle.rules.specs.Numbers.{areaSize, verification, attemptLimit}
 use Rattle.rules.specs.declared.{Phase.Phase, Phase.the-variants.{Idle, Receiving, Verifying, Staged, Failed}, Transfer.Transfer, Thresholds.Thresholds}
-use Rattle.rules.specs.declared.{Security.Security, Device.Device}
+use Rattle.rules.specs.declared.{Security.Security, Reading.Reading, Device.Device}
 
 -- "Phase (Idle, Receiving, Verifying, Staged, Failed)", numbered in that order, so that two phases can be compared
 abbrev pub phaseNumber : Phase → ℕ
@@ -21,13 +21,14 @@ infix 40 _is_
 abbrev pub _is_ : Phase → Phase → Bool
 p is q = phaseNumber p =? phaseNumber q
 
--- "Fresh: Idle, running version 1, everything else zero or off."
+-- "Fresh: Idle, running version 1, everything else zero or off." Document 02, T-04: "Fresh readings are zero".
 abbrev pub fresh : Device
 fresh =
     record {
       transfer = record { phase = Idle; contexts = 0; received = 0; ticks = 0; running = 1; staged = 0; reason = 0; faulty = 0 };
       thresholds = record { enable = 0; spare = 0; media = 0; controller = 0 };
       security = record { enabled = false; locked = false; frozen = false; attempts = 0; passphrase = zeros 32 };
+      reading = record { spare = 0; media = 0; controller = 0 };
     }
 
 -- "contexts given out so far": how many numbers have been given, which is the last one given too, for they begin at 1
@@ -73,8 +74,13 @@ possibleSecurity s =
 unfoldable pub possibleThresholds : Thresholds → Bool
 possibleThresholds h = (h .enable <? 8) && (h .spare ≤? 100)
 
+-- document 02, T-04: "R3 covers a record whose reading has spare over 100"
+unfoldable pub possibleReading : Reading → Bool
+possibleReading r = r .spare ≤? 100
+
 unfoldable pub possible : Device → Bool
-possible d = possibleTransfer (d .transfer) && possibleSecurity (d .security) && possibleThresholds (d .thresholds)
+possible d =
+    possibleTransfer (d .transfer) && possibleSecurity (d .security) && possibleThresholds (d .thresholds) && possibleReading (d .reading)
 
 -- A module's whole state, "device record, staging area": what an event finds, and what it leaves.
 pub record Module : Type 0 where

@@ -20,7 +20,7 @@ unfoldable pub verdict : List Check → Verdict
 verdict [] = Accepted
 verdict ((test gives refusal) ∷ checks) = if test then Refused refusal else verdict checks
 
--- "R1 | answer buffer shorter than 64"
+-- "R1 | answer buffer shorter than 64"; document 02, T-04: "R1 now reads 132"
 abbrev pub R1Check : List ℕ → Check
 R1Check answer = length answer <? answerRoom gives R 1
 

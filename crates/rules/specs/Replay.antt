@@ -10,16 +10,17 @@ use Rattle.rules.specs.Bytes.{zeros}
 use Rattle.rules.specs.Text.{ascii, decimal, field}
 use Rattle.rules.specs.Numbers.{areaSize, answerRoom}
 use Rattle.rules.specs.Record.{_is_, fresh, given, Module, moduleOf}
-use Rattle.rules.specs.Module.{Result, callResult, tickResult, powerResult}
+use Rattle.rules.specs.Health.{readingOf}
+use Rattle.rules.specs.Module.{Result, callResult, tickResult, powerResult, readingResult}
 use Rattle.rules.specs.Log.{entryOf, requestIn, recordsIn, recordAt, shortTail}
 use Rattle.rules.specs.declared.{Phase.Phase, Phase.the-variants.{Idle, Receiving, Verifying, Staged, Failed}, Transfer.Transfer, Device.Device, Refusal.the-variants.{R, Status}}
-use Rattle.rules.specs.declared.{Verdict.Verdict, Verdict.the-variants.{Accepted, Refused}, Reply.Reply, Entry.Entry, Entry.the-variants.{Call, Tick, Power, Bad}}
+use Rattle.rules.specs.declared.{Verdict.Verdict, Verdict.the-variants.{Accepted, Refused}, Reply.Reply, Entry.Entry, Entry.the-variants.{Call, Tick, Power, Health, Bad}}
 
 -- "Replay starts from a fresh module and an area of zeros"
 abbrev pub replayStart : Module
 replayStart = moduleOf fresh (zeros areaSize)
 
--- a log record's call, lent an answer buffer of 64 zeros (A34)
+-- a log record's call, lent an answer buffer of 132 zeros (A34)
 abbrev pub replayCall : Module → (revision index : ℕ) (request : List ℕ) → Result
 replayCall m revision index request = callResult m revision index request (zeros answerRoom)
 
@@ -28,6 +29,7 @@ abbrev pub played : Module → Entry → (request : List ℕ) → Module
 played m (Call host revision index size) request = replayCall m revision index request .after
 played m Tick request = tickResult m .after
 played m Power request = powerResult m .after
+played m (Health spare media controller) request = readingResult m (readingOf spare media controller) .after
 played m Bad request = m
 
 -- The two numbers of a call's line. A replay never gives an R number (A33), so that the two lines with R are never used.
@@ -47,11 +49,12 @@ callLine number index reply =
     if index =? 0 then field number " call - - " ++ field (reply .length) "\n"
     else (field number " call " ++ field (printedStatus (reply .verdict)) " " ++ field (printedExt (reply .verdict)) " " ++ field (reply .length) "\n")
 
--- the line of a log record. "A power cycle prints `power`, a bad record `bad`"
+-- the line of a log record. "A power cycle prints `power`, a bad record `bad`"; document 02, T-04: "the replay prints `health`"
 abbrev pub entryLine : (number : ℕ) → Module → Entry → (request : List ℕ) → List ℕ
 entryLine number m (Call host revision index size) request = callLine number index (replayCall m revision index request .reply)
 entryLine number m Tick request = field number " tick\n"
 entryLine number m Power request = field number " power\n"
+entryLine number m (Health spare media controller) request = field number " health\n"
 entryLine number m Bad request = field number " bad\n"
 
 abbrev pub recordPlayed : Module → (bytes : List ℕ) → Module

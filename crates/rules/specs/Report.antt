@@ -10,10 +10,10 @@ use Rattle.rules.specs.Record.{Module}
 use Rattle.rules.specs.Log.{entryOf, requestIn, recordsIn, recordAt, shortTail}
 use Rattle.rules.specs.Replay.{replayStart, replayCall, moduleAfter, printedStatus}
 use Rattle.rules.specs.History.{total, leadsTo, Throughout}
-use Rattle.rules.specs.declared.{Entry.Entry, Entry.the-variants.{Call, Tick, Power, Bad}, Counts.Counts}
+use Rattle.rules.specs.declared.{Entry.Entry, Entry.the-variants.{Call, Tick, Power, Health, Bad}, Counts.Counts}
 
 -- "a grid of counts, one row for each host, one column for each status 0 to 11, then function 0 calls, ticks, power cycles, bad records and short tails."
--- Row 0 is host 1's; column 0 is status 0's.
+-- Document 02, T-04: "T-01 counts readings". Row 0 is host 1's; column 0 is status 0's.
 pub record Report : Type 0 where
   pub grid : List (List ℕ)
   pub counts : Counts
@@ -21,12 +21,12 @@ pub record Report : Type 0 where
 -- before the first log: four rows of twelve zeros, and zeros
 abbrev pub nothingCounted : Report
 nothingCounted =
-    record { grid = replicate 4 (replicate 12 0); counts = record { masks = 0; ticks = 0; powers = 0; bads = 0; shorts = 0 } }
+    record { grid = replicate 4 (replicate 12 0); counts = record { masks = 0; ticks = 0; powers = 0; readings = 0; bads = 0; shorts = 0 } }
 
--- what a log record counts as: a call by a host that was answered a status; a call of function 0; a tick; a power cycle; a bad record
+-- what a log record counts as: a call by a host that was answered a status; a call of function 0; a tick; a power cycle; a health reading; a bad record
 pub data Counted : Type 0 where
   answered : (host status : ℕ) → Counted
-  masked ticked powered bad : Counted
+  masked ticked powered measured bad : Counted
 
 -- a call by its host and by the status that the replay prints, but for function 0, which has none
 abbrev pub countedAs : Module → Entry → (request : List ℕ) → Counted
@@ -34,6 +34,7 @@ countedAs m (Call host revision index size) request =
     if index =? 0 then masked else answered host (printedStatus (replayCall m revision index request .reply .verdict))
 countedAs m Tick request = ticked
 countedAs m Power request = powered
+countedAs m (Health spare media controller) request = measured
 countedAs m Bad request = bad
 
 abbrev pub recordCounted : Module → (bytes : List ℕ) → Counted
@@ -52,17 +53,20 @@ raisedGrid (answered host status) grid = raisedCell host status grid
 raisedGrid masked grid = grid
 raisedGrid ticked grid = grid
 raisedGrid powered grid = grid
+raisedGrid measured grid = grid
 raisedGrid bad grid = grid
 
-abbrev countsOf : (masks ticks powers bads shorts : ℕ) → Counts
-countsOf masks ticks powers bads shorts = record { masks = masks; ticks = ticks; powers = powers; bads = bads; shorts = shorts }
+abbrev countsOf : (masks ticks powers readings bads shorts : ℕ) → Counts
+countsOf masks ticks powers readings bads shorts =
+    record { masks = masks; ticks = ticks; powers = powers; readings = readings; bads = bads; shorts = shorts }
 
 abbrev pub raisedCounts : Counted → Counts → Counts
 raisedCounts (answered host status) c = c
-raisedCounts masked c = countsOf (c .masks + 1) (c .ticks) (c .powers) (c .bads) (c .shorts)
-raisedCounts ticked c = countsOf (c .masks) (c .ticks + 1) (c .powers) (c .bads) (c .shorts)
-raisedCounts powered c = countsOf (c .masks) (c .ticks) (c .powers + 1) (c .bads) (c .shorts)
-raisedCounts bad c = countsOf (c .masks) (c .ticks) (c .powers) (c .bads + 1) (c .shorts)
+raisedCounts masked c = countsOf (c .masks + 1) (c .ticks) (c .powers) (c .readings) (c .bads) (c .shorts)
+raisedCounts ticked c = countsOf (c .masks) (c .ticks + 1) (c .powers) (c .readings) (c .bads) (c .shorts)
+raisedCounts powered c = countsOf (c .masks) (c .ticks) (c .powers + 1) (c .readings) (c .bads) (c .shorts)
+raisedCounts measured c = countsOf (c .masks) (c .ticks) (c .powers) (c .readings + 1) (c .bads) (c .shorts)
+raisedCounts bad c = countsOf (c .masks) (c .ticks) (c .powers) (c .readings) (c .bads + 1) (c .shorts)
 
 abbrev pub raised : Counted → Report → Report
 raised x r = record { grid = raisedGrid x (r .grid); counts = raisedCounts x (r .counts) }
@@ -74,7 +78,7 @@ reportAfter r m log (suc j) = raised (recordCounted (moduleAfter m log j) (recor
 
 -- a short tail raises its own count
 abbrev pub raisedShort : Bool → Counts → Counts
-raisedShort short c = countsOf (c .masks) (c .ticks) (c .powers) (c .bads) (if short then c .shorts + 1 else c .shorts)
+raisedShort short c = countsOf (c .masks) (c .ticks) (c .powers) (c .readings) (c .bads) (if short then c .shorts + 1 else c .shorts)
 
 abbrev pub withTail : Bool → Report → Report
 withTail short r = record { grid = r .grid; counts = raisedShort short (r .counts) }
@@ -97,7 +101,12 @@ gridFits (row ∷ grid) = rowFits row && gridFits grid
 
 abbrev pub countsFit : Counts → Bool
 countsFit c =
-    c .masks ≤? largestCount && c .ticks ≤? largestCount && c .powers ≤? largestCount && c .bads ≤? largestCount && c .shorts ≤? largestCount
+    c .masks ≤? largestCount
+    && c .ticks ≤? largestCount
+    && c .powers ≤? largestCount
+    && c .readings ≤? largestCount
+    && c .bads ≤? largestCount
+    && c .shorts ≤? largestCount
 
 -- no count passes it
 unfoldable pub fits : Report → Bool
@@ -142,6 +151,7 @@ countLines c =
     ascii "function 0 " ++ field (c .masks) "\n"
     ++ (ascii "ticks " ++ field (c .ticks) "\n")
     ++ (ascii "power " ++ field (c .powers) "\n")
+    ++ (ascii "readings " ++ field (c .readings) "\n")
     ++ (ascii "bad " ++ field (c .bads) "\n")
     ++ (ascii "short " ++ field (c .shorts) "\n")
 
@@ -164,24 +174,35 @@ abbrev pub ifCall : Entry → ℕ
 ifCall (Call host revision index size) = 1
 ifCall Tick = 0
 ifCall Power = 0
+ifCall (Health spare media controller) = 0
 ifCall Bad = 0
 
 abbrev pub ifTick : Entry → ℕ
 ifTick (Call host revision index size) = 0
 ifTick Tick = 1
 ifTick Power = 0
+ifTick (Health spare media controller) = 0
 ifTick Bad = 0
 
 abbrev pub ifPower : Entry → ℕ
 ifPower (Call host revision index size) = 0
 ifPower Tick = 0
 ifPower Power = 1
+ifPower (Health spare media controller) = 0
 ifPower Bad = 0
+
+abbrev pub ifReading : Entry → ℕ
+ifReading (Call host revision index size) = 0
+ifReading Tick = 0
+ifReading Power = 0
+ifReading (Health spare media controller) = 1
+ifReading Bad = 0
 
 abbrev pub ifBad : Entry → ℕ
 ifBad (Call host revision index size) = 0
 ifBad Tick = 0
 ifBad Power = 0
+ifBad (Health spare media controller) = 0
 ifBad Bad = 1
 
 abbrev pub ifShort : (log : List ℕ) → ℕ
@@ -196,6 +217,7 @@ pub record Sums (r : Report) (logs : List (List ℕ)) : Type 0 where
   pub calls : gridSum (r .grid) + r .counts .masks ≡ total (countIn ifCall) logs
   pub ticks : r .counts .ticks ≡ total (countIn ifTick) logs
   pub powers : r .counts .powers ≡ total (countIn ifPower) logs
+  pub readings : r .counts .readings ≡ total (countIn ifReading) logs
   pub bads : r .counts .bads ≡ total (countIn ifBad) logs
   pub shorts : r .counts .shorts ≡ total ifShort logs
 
@@ -216,7 +238,7 @@ r plus q =
     record {
       grid = addedGrid (r .grid) (q .grid);
       counts = countsOf (r .counts .masks + q .counts .masks) (r .counts .ticks + q .counts .ticks) (r .counts .powers + q .counts .powers)
-          (r .counts .bads + q .counts .bads) (r .counts .shorts + q .counts .shorts);
+          (r .counts .readings + q .counts .readings) (r .counts .bads + q .counts .bads) (r .counts .shorts + q .counts .shorts);
     }
 
 -- the same logs in another order

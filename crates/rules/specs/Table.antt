@@ -7,7 +7,7 @@ use Rattle.rules.specs.Tests.{if_then_else_, _≤?_, _=?_}
 use Rattle.rules.specs.Bytes.{bit}
 use Rattle.rules.specs.Refusals.{Check, _gives_}
 use Rattle.rules.specs.declared.{Refusal.the-variants.Status, Row.Row, Function.Function}
-use Rattle.rules.specs.declared.Function.the-variants.{Mask, GetThreshold, GetFwInfo, Start, Send, Finish, Query, SetThreshold, GetSecurityState, SetPassphrase, Disable, Unlock, Freeze, Unserved}
+use Rattle.rules.specs.declared.Function.the-variants.{Mask, GetHealth, GetThreshold, GetFwInfo, Start, Send, Finish, Query, SetThreshold, GetSecurityState, SetPassphrase, Disable, Unlock, Freeze, Unserved}
 
 -- a row: the function, the first revision that serves it, its request bytes, its answer bytes
 abbrev row : Function → (since request answer : ℕ) → Row
@@ -19,10 +19,12 @@ abbrev row-and-more : Function → (since request answer : ℕ) → Row
 row-and-more function since request answer =
     record { function = function; since = since; request = request; more = true; answer = answer }
 
--- "Revision 1 serves 0 and 2. Revision 2 serves all." Function 0 "reads past its request"; a Send is "12 + piece".
+-- "Revision 1 serves 0 and 2. Revision 2 serves all." Function 0 "reads past its request"; a Send is "12 + piece". Document 02, T-04, adds: "Function 1, at
+-- revisions 1 and 2, answers 132 bytes".
 abbrev pub table : List (ℕ × Row)
 table =
     (0, row-and-more Mask 1 0 4)
+    ∷ (1, row GetHealth 1 0 132)
     ∷ (2, row GetThreshold 1 0 12)
     ∷ (12, row GetFwInfo 2 0 44)
     ∷ (13, row Start 2 0 8)
@@ -74,5 +76,6 @@ bits revision [] = 0
 bits revision (line ∷ lines) = bit (line .0) (served? revision (line .1)) + bits revision lines
 
 -- "Function 0 answers 4 bytes of mask": "revision 2 gives 05 F0 FB 00, revision 1 gives 05 00 00 00, any other gives four zeros."
+-- Document 02, T-04: "Function 0 gains bit 1 at both", so 07 in the place of 05.
 unfoldable pub mask : (revision : ℕ) → ℕ
 mask revision = bits revision table

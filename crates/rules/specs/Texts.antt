@@ -18,7 +18,7 @@ logOf (log prints text) = log
 abbrev pub textOf : Printed → List ℕ
 textOf (log prints text) = text
 
--- records of a log: a host's call at revision 2, a tick, a power cycle, and one of a kind that there is not
+-- records of a log: a host's call at revision 2, a tick, a power cycle, a health reading of this spare, and one of a kind that there is not
 abbrev asks : (host index : ℕ) (request : List ℕ) → List ℕ
 asks host index request =
     (1 ∷ host ∷ le 2 2) ++ le 2 index ++ le 2 (length request) ++ request ++ zeros (536 - length request)
@@ -29,8 +29,11 @@ ticks = 2 ∷ zeros 543
 abbrev powers : List ℕ
 powers = 3 ∷ zeros 543
 
-abbrev fourth-kind : List ℕ
-fourth-kind = 4 ∷ zeros 543
+abbrev reads : (spare : ℕ) → List ℕ
+reads spare = 4 ∷ zeros 7 ++ (spare ∷ 0x01 ∷ 0x05 ∷ 0x00 ∷ 0x80 ∷ zeros 531)
+
+abbrev fifth-kind : List ℕ
+fifth-kind = 5 ∷ zeros 543
 
 abbrev eight-ticks : List ℕ
 eight-ticks = ticks ++ ticks ++ ticks ++ ticks ++ ticks ++ ticks ++ ticks ++ ticks
@@ -82,7 +85,9 @@ texts =
     -- a log that ends in the middle of its second record
     ∷ (asks 1 13 [] ++ take 272 finishes prints heading ++ ascii "0 call 0 0 8\n1 short\nend receiving 1\n")
     -- "A power cycle prints `power`, a bad record `bad`, function 0 prints `call - - 4`."
-    ∷ (powers ++ fourth-kind ++ asks 4 0 (zeros 3) prints heading ++ ascii "0 power\n1 bad\n2 call - - 4\nend idle 0\n")
+    ∷ (powers ++ fifth-kind ++ asks 4 0 (zeros 3) prints heading ++ ascii "0 power\n1 bad\n2 call - - 4\nend idle 0\n")
+    -- document 02, T-04: "the replay prints `health`, .. and a record with spare over 100 is bad"; function 1 answers 132 bytes
+    ∷ (reads 100 ++ reads 101 ++ asks 4 1 [] prints heading ++ ascii "0 health\n1 bad\n2 call 0 0 132\nend idle 0\n")
     -- "The last line is phase in lower case and contexts": the phases that are left
     ∷ (asks 1 13 [] ++ finishes prints heading ++ ascii "0 call 0 0 8\n1 call 0 0 4\nend verifying 1\n")
     ∷ (asks 1 13 [] ++ finishes ++ eight-ticks ++ asks 1 16 (le 4 1)

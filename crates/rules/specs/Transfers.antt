@@ -8,7 +8,7 @@ use Rattle.rules.specs.Bytes.{numberAt}
 use Rattle.rules.specs.Refusals.{refused?}
 use Rattle.rules.specs.Transfer.{GetFwInfo, Start, Send, Finish, Query}
 use Rattle.rules.specs.Record.{Module}
-use Rattle.rules.specs.Module.{Call, OnMask, OnThresholds, OnTransfer, OnSecurity, OnNothing, callIn, Event, call, tick, power, step}
+use Rattle.rules.specs.Module.{Call, OnMask, OnHealth, OnThresholds, OnTransfer, OnSecurity, OnNothing, callIn, Event, call, tick, power, reading, step}
 use Rattle.rules.specs.History.{Machine, ExchangeOf, Throughout}
 use Rattle.rules.specs.declared.Reply.{Reply}
 
@@ -34,7 +34,7 @@ abbrev pub History : Type 0
 History = List Exchange
 
 -- What an exchange is to the transfers: an accepted Start by a host, answered a context; an accepted Send or Finish by a host with a context; a tick; a power
--- cycle; or none of these, as a refused call is.
+-- cycle; or none of these, as a refused call and a reading are.
 pub data Kind : Type 0 where
   Started : (host context : ℕ) → Kind
   Sent : (host context offset : ℕ) (piece : List ℕ) → Kind
@@ -50,6 +50,7 @@ ifAccepted got kind = if refused? (got .reply .verdict) then Other else kind
 -- a call, by what its bytes say; the context that a Start gives stands in bytes 4 to 7 of its answer
 abbrev pub callKind : (host : ℕ) → Call → Answer → Kind
 callKind host (OnMask revision) got = Other
+callKind host OnHealth got = Other
 callKind host (OnThresholds asked) got = Other
 callKind host (OnTransfer GetFwInfo) got = Other
 callKind host (OnTransfer Start) got = ifAccepted got (Started host (numberAt 4 4 (got .buffer)))
@@ -64,6 +65,7 @@ abbrev pub eventKind : Event → Answer → Kind
 eventKind (call host revision index request answer) got = callKind host (callIn revision index request) got
 eventKind tick got = Ticked
 eventKind power got = Powered
+eventKind (reading new) got = Other
 
 -- an exchange
 abbrev pub kindOf : Exchange → Kind

@@ -6,8 +6,8 @@ pub const AREA_SIZE: usize = 16384;
 // Longest piece 512.
 pub const LONGEST_PIECE: u32 = 512;
 
-// Answer buffer at least 64.
-pub const ANSWER_ROOM: usize = 64;
+// Answer buffer at least 132 (document 02, T-04).
+pub const ANSWER_ROOM: usize = 132;
 
 // Verification 8 ticks.
 pub const VERIFICATION: u8 = 8;
@@ -81,11 +81,19 @@ pub struct Security {
     pub passphrase: [u8; 32],
 }
 
+// The last health reading: spare, media and controller temperature words (document 02, T-04).
+pub struct Reading {
+    pub spare: u8,
+    pub media: u16,
+    pub controller: u16,
+}
+
 // The device record.
 pub struct Device {
     pub transfer: Transfer,
     pub thresholds: Thresholds,
     pub security: Security,
+    pub reading: Reading,
 }
 
 // What a refusal gives: an R number, which writes nothing, or a status with its extended number.
@@ -108,6 +116,7 @@ pub struct Reply {
 // The functions of the table, by name. `Unserved` stands for every index that the table lacks.
 pub enum Function {
     Mask,
+    GetHealth,
     GetThreshold,
     GetFwInfo,
     Start,
@@ -157,14 +166,20 @@ pub enum Entry {
     },
     Tick,
     Power,
+    Health {
+        spare: u8,
+        media: u16,
+        controller: u16,
+    },
     Bad,
 }
 
-// A report's counts beside its grid: function 0 calls, which answer a mask; ticks; power cycles; bad records; short tails.
+// A report's counts beside its grid: function 0 calls, which answer a mask; ticks; power cycles; readings; bad records; short tails.
 pub struct Counts {
     pub masks: u32,
     pub ticks: u32,
     pub powers: u32,
+    pub readings: u32,
     pub bads: u32,
     pub shorts: u32,
 }

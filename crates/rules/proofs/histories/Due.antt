@@ -10,7 +10,7 @@ use Rattle.rules.specs.Transfers.{Answer, Exchange, History, Kind, Finis
 use Rattle.rules.specs.{Sends.{ownSends, pieces, FinishedIn, tickCount, ticksIn, powerCount, powerCycles}, Demand3.{remains, Sound, Due}, declared.Phase.Phase}
 use Rattle.rules.specs.{declared.Phase.the-variants.{Idle, Verifying}, declared.Transfer.Transfer}
 use Rattle.rules.proofs.histories.Joining.{plays-right, end-join, counted-along, total-join, leads-join, throughout-left, total-none}
-use Rattle.rules.proofs.page.Split.{TransferPart, partOf, Act, Transfers, Others, Ticks, Powers, act, partChange, partNext, partTick, answers, nexts, inner, actKind, _with-part_}
+use Rattle.rules.proofs.page.Split.{TransferPart, partOf, Act, Transfers, Others, Ticks, Powers, Reads, act, partChange, partNext, partTick, answers, nexts, inner, actKind, _with-part_}
 use Rattle.rules.proofs.{page.Through.kind-act, page.Facts.{never, Kept, accepted-call, changes, send-ok, finish-ok, Tick, calm, counting, good, bad, tick-case}}
 use Rattle.rules.proofs.{page.Possible.sound-act, histories.Gate.Remains, histories.KindOf.{good-accepted, accepted-good, FinishAct, finished-act}}
 use Rattle.rules.proofs.{histories.Order.{openAtEnd, Fits, goes, orders, chosen, bytes-open}, histories.Pieces.{AtFinish, at-finish, Opened, opened}}
@@ -42,6 +42,7 @@ held-act m (Transfers host a b x n answer) got p z l =
 held-act m (Others a b x n answer) got p z l = record { at = p; count = omega arith; bytes = refl }
 held-act m Ticks got p z l = held-tick (partOf m) p l
 held-act m Powers got p z l = absurd (omega arith)
+held-act m (Reads new) got p z l = record { at = p; count = omega arith; bytes = refl }
 
 -- one exchange more
 held-step : (s : TransferPart) (n : ℕ) (m : Module) (x : Exchange) → powerCount (kindOf x) ≡ 0 → (n < s .transfer .ticks → Held s (partOf m) n)
@@ -168,6 +169,7 @@ watch-act h x m (Transfers host a b (Query context) n answer) e o t w p k =
     same-watch h (partOf m) (partNext (partOf m) a b (Query context)) x
     (changes (partOf m) a b (Query context) (accepted-call (partOf m) a b (Query context) n answer (ap (λ (z : Answer). remains (z .reply .verdict)) p ∙ k))) e w
 watch-act h x m (Others a b y n answer) e o t w p k = same-watch h (partOf m) (partOf m) x refl e w
+watch-act h x m (Reads new) e o t w p k = same-watch h (partOf m) (partOf m) x refl e w
 watch-act h x m Ticks e o t w p k = watch-tick h (partOf m) x e w (tick-case (m .device .transfer) (m .area))
 watch-act h x m Powers e o t w p k = unfold Watch in (λ q. never (sym (ap (λ (z : Phase). z is Verifying) q)))
 

@@ -6,16 +6,17 @@ use native.Mathlib.Omega.{arith}
 use lib.ListN.{length}
 use borrow.Author.Tests.{leb-true, eqb-true, not-false}
 use Rattle.rules.specs.{Tests.{if_then_else_, _=?_, _≤?_}, Refusals.refused?, Table.{table, lookUp, rowOf, fits?}, Transfer.{GetFwInfo, Start, Send, Finish, Query}}
-use Rattle.rules.specs.{Module.{callOf, Event, call, tick, power}, History.{All, keep}, Transfers.{Exchange, History}}
+use Rattle.rules.specs.{Module.{callOf, Event, call, tick, power, reading}, History.{All, keep}, Transfers.{Exchange, History}}
 use Rattle.rules.specs.{Hosts.{Carries, Uses, AnsweredTo, HonestAfter, Honest}, Demand3.{remains, struck}, declared.Verdict.Verdict}
 use Rattle.rules.specs.{declared.Verdict.the-variants.{Accepted, Refused}, declared.Row.Row, declared.Function.Function}
-use Rattle.rules.proofs.{page.Choice.{and-true, if-both}, page.Split.{Act, Transfers, Others, Ticks, Powers, act, actOf, unserved?, misfit?}}
+use Rattle.rules.proofs.{page.Choice.{and-true, if-both}, page.Split.{Act, Transfers, Others, Ticks, Powers, Reads, act, actOf, unserved?, misfit?}}
 use Rattle.rules.proofs.{page.Through.kind-act, page.Facts.never, histories.KindOf.started-act, histories.Gate.Remains}
 use Rattle.rules.specs.declared.Function.the-variants as Function′
 
 -- how long a request must be to carry a context
 abbrev needs : Function → ℕ
 needs Function′.Mask = 0
+needs Function′.GetHealth = 0
 needs Function′.GetThreshold = 0
 needs Function′.GetFwInfo = 0
 needs Function′.Start = 0
@@ -66,10 +67,12 @@ UsesAct past (Transfers host a b (Query context) n answer) = Unit {0}
 UsesAct past (Others a b x n answer) = Unit {0}
 UsesAct past Ticks = Unit {0}
 UsesAct past Powers = Unit {0}
+UsesAct past (Reads new) = Unit {0}
 
 uses-call : (past : History) (f : Function) (host revision n : ℕ) (a b : Bool) (request answer : List ℕ) → (b ≡ false → needs f ≤ length request)
     → ((context : ℕ) → Carries (callOf f revision request) request context → AnsweredTo host context past) → UsesAct past (actOf host a b (callOf f revision request) n answer)
 uses-call past Function′.Mask host revision n a b request answer l u = tt
+uses-call past Function′.GetHealth host revision n a b request answer l u = tt
 uses-call past Function′.GetThreshold host revision n a b request answer l u = tt
 uses-call past Function′.GetFwInfo host revision n a b request answer l u = tt
 uses-call past Function′.Start host revision n a b request answer l u = tt
@@ -91,6 +94,7 @@ uses-act past (call host revision index request answer) u =
     (λ context k. u host context (refl, k))
 uses-act past tick u = tt
 uses-act past power u = tt
+uses-act past (reading new) u = tt
 
 -- what remains: it all remains, and it is honest
 remains-step : (b : Bool) (x : Exchange) (h : History) → remains (x .got .reply .verdict) ≡ b → All Remains h → All Remains (keep b x h)

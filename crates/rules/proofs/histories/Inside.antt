@@ -10,7 +10,7 @@ use Rattle.rules.specs.{Sends.{isSendOf, ownSend, ownSends, others}, Dem
 use Rattle.rules.specs.{declared.Phase.the-variants.{Receiving, Verifying}, declared.Transfer.Transfer}
 use Rattle.rules.proofs.{page.Choice.if-both, histories.Joining.{all-left, plays-left, plays-right, same-cons, same-trans}}
 use Rattle.rules.proofs.histories.Swapping.{Either, gather, sink, frees}
-use Rattle.rules.proofs.page.Split.{TransferPart, partOf, Act, Transfers, Others, Ticks, Powers, act, partVerdict, partChange, partAnswer, answers, nexts, inner, actKind, givenIn, partPower, _with-part_}
+use Rattle.rules.proofs.page.Split.{TransferPart, partOf, Act, Transfers, Others, Ticks, Powers, Reads, act, partVerdict, partChange, partAnswer, answers, nexts, inner, actKind, givenIn, partPower, _with-part_}
 use Rattle.rules.proofs.{page.Through.kind-act, page.Facts.{never, Kept, accepted-call, changes, StartOk, start-ok, send-ok, finish-ok, FinishOk, query-ok, good}}
 use Rattle.rules.proofs.{page.Possible.sound-act, histories.Gate.{Remains, keeps-end}}
 use Rattle.rules.proofs.histories.KindOf.{good-accepted, accepted-good, StartAct, started-act, FinishAct, finished-act, given-number}
@@ -84,6 +84,7 @@ go-on c m (Transfers host a b (Query context) n answer) got p g q k =
     let v = accepted-call (partOf m) a b (Query context) n answer (ap (λ (z : Answer). remains (z .reply .verdict)) q ∙ k) in
     never (sym (ap (λ (z : Phase). z is Receiving) p) ∙ query-ok (partOf m) a b context v)
 go-on c m (Others a b x n answer) got p g q k = inr (record { which = inr (refl, tt); at = p; ctx = g })
+go-on c m (Reads new) got p g q k = inr (record { which = inr (refl, tt); at = p; ctx = g })
 go-on c m Ticks got p g q k =
     let e = still (partOf m) (ap (λ (z : Phase). z is Verifying) p) in
     inr (record { which = inr (refl, tt); at = ap (λ (s : TransferPart). s .transfer .phase) e ∙ p; ctx = ap (λ (s : TransferPart). current (s .transfer)) e ∙ g })

@@ -7,7 +7,7 @@ use Rattle.rules.specs.{Tests.if_then_else_, Bytes.{le, numberAt}, Numbe
 use Rattle.rules.specs.Transfer.{TransferCall, GetFwInfo, Start, Send, Finish, Query, transferAnswer}
 use Rattle.rules.specs.{Transfers.{Answer, Kind, Started, Sent, Finished, Ticked, Powered, Other}, declared.Refusal.the-variants.{R, Status}}
 use Rattle.rules.specs.{declared.Verdict.Verdict, declared.Verdict.the-variants.{Accepted, Refused}}
-use Rattle.rules.proofs.page.Split.{TransferPart, Act, Transfers, Others, Ticks, Powers, answerBy, partVerdict, partAnswer, actKind, givenIn}
+use Rattle.rules.proofs.page.Split.{TransferPart, Act, Transfers, Others, Ticks, Powers, Reads, answerBy, partVerdict, partAnswer, actKind, givenIn}
 use Rattle.rules.proofs.page.Facts.{never, replies, start-ok}
 
 -- the answer is no refusal
@@ -70,6 +70,7 @@ started-act (Transfers j a b (Query c) n answer) got host context e = let z : _�
 started-act (Others a b x n answer) got host context e = let z : _≡_ {A = ℕ} 0 1 = cc in absurd (omega arith)
 started-act Ticks got host context e = let z : _≡_ {A = ℕ} 0 1 = cc in absurd (omega arith)
 started-act Powers got host context e = let z : _≡_ {A = ℕ} 0 1 = cc in absurd (omega arith)
+started-act (Reads new) got host context e = let z : _≡_ {A = ℕ} 0 1 = cc in absurd (omega arith)
 
 pub record FinishAct (f : Act) (got : Answer) (host context flag : ℕ) : Type 0 where
   pub unserved : Bool
@@ -100,6 +101,7 @@ finished-act (Transfers j a b (Query c) n answer) got host context flag e = let 
 finished-act (Others a b x n answer) got host context flag e = let z : _≡_ {A = ℕ} 0 1 = cc in absurd (omega arith)
 finished-act Ticks got host context flag e = let z : _≡_ {A = ℕ} 0 1 = cc in absurd (omega arith)
 finished-act Powers got host context flag e = let z : _≡_ {A = ℕ} 0 1 = cc in absurd (omega arith)
+finished-act (Reads new) got host context flag e = let z : _≡_ {A = ℕ} 0 1 = cc in absurd (omega arith)
 
 -- an accepted Start's answer carries the number that it gives
 carries-back : (n : ℕ) (answer : List ℕ) → n ≤ lastContext → numberAt 4 4 (answerAfter (statusBytes 0 0 ++ le 4 n) answer) ≡ n

@@ -7,7 +7,7 @@ use Rattle.rules.specs.Transfers.{Answer, machine, Exchange, History, Ki
 use Rattle.rules.specs.{Sends.{isSendOf, ownSend, ownSends, others, FinishedIn}, Moves.{moved, ByMoves, as-it-is, one-more, isFinishOf, itsFinish}}
 use Rattle.rules.specs.Demand3.{Sound, Move}
 use Rattle.rules.proofs.histories.Joining.{all-left, all-right, all-join, all-only, all-except, plays-left, plays-right, same-under}
-use Rattle.rules.proofs.{page.Split.{Act, Transfers, Others, Ticks, Powers, act, inner, actKind}, page.Through.kind-act}
+use Rattle.rules.proofs.{page.Split.{Act, Transfers, Others, Ticks, Powers, Reads, act, inner, actKind}, page.Through.kind-act}
 use Rattle.rules.proofs.{histories.Gate.{Remains, Roomy, Inward, inwards, sound-inner, same-outward}, histories.Swap.{FreeAct, Free}}
 use Rattle.rules.proofs.histories.Inside.{Within, Begun, begun, inside, move-here}
 
@@ -95,6 +95,7 @@ free-kind (Transfers host a b (Query context) n answer) got r = absurd r
 free-kind (Others a b x n answer) got r = inr refl
 free-kind Ticks got r = inl refl
 free-kind Powers got r = absurd r
+free-kind (Reads new) got r = inr refl
 
 pub free-of : (x : Exchange) → Free x → (kindOf x ≡ Ticked) ⊎ (kindOf x ≡ Other)
 unfolding Free

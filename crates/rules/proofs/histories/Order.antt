@@ -10,7 +10,7 @@ use Rattle.rules.specs.Transfers.{Answer, Exchange, History, Kind, Start
 use Rattle.rules.specs.{Hosts.AnsweredTo, Demand3.{remains, Sound}, declared.Phase.Phase, declared.Phase.the-variants.{Receiving, Verifying}}
 use Rattle.rules.specs.declared.Transfer.{Transfer}
 use Rattle.rules.proofs.page.Choice.{if-both}
-use Rattle.rules.proofs.page.Split.{TransferPart, partOf, Act, Transfers, Others, Ticks, Powers, act, partChange, partNext, partTick, answers, nexts, inner, actKind, givenIn}
+use Rattle.rules.proofs.page.Split.{TransferPart, partOf, Act, Transfers, Others, Ticks, Powers, Reads, act, partChange, partNext, partTick, answers, nexts, inner, actKind, givenIn}
 use Rattle.rules.proofs.{page.Through.kind-act, page.Facts.{never, Kept, accepted-call, changes, was-served, SendOk, send-ok, finish-ok}, page.Possible.sound-act}
 use Rattle.rules.proofs.{histories.Gate.Remains, histories.KindOf.{accepted-good, NoStart}, histories.Swap.still, histories.Inside.{Begun, begun}}
 use Rattle.rules.proofs.{histories.Honest.UsesAct, page.Invariant.by-tick, page.Keeps.tick-given}
@@ -150,6 +150,7 @@ goes-act x o m (Transfers host a b (Query context) n answer) is-f e sound w p k 
     goes-other (Transfers host a b (Query context) n answer) o (partOf m) (partNext (partOf m) a b (Query context)) w
     (changes (partOf m) a b (Query context) (accepted-call (partOf m) a b (Query context) n answer (ap (λ (z : Answer). remains (z .reply .verdict)) p ∙ k)))
 goes-act x o m (Others a b y n answer) is-f e sound w p k = goes-other (Others a b y n answer) o (partOf m) (partOf m) w refl
+goes-act x o m (Reads new) is-f e sound w p k = goes-other (Reads new) o (partOf m) (partOf m) w refl
 goes-act x o m Ticks is-f e sound w p k =
     record { order = tt; fits = tick-fits o (partOf m) w; same-given = λ z. tick-given (partOf m); used = λ past u. tt }
 goes-act x o m Powers is-f e sound w p k = record { order = tt; fits = refl; same-given = λ z. refl; used = λ past u. tt }

@@ -6,13 +6,13 @@ use native.Mathlib.Omega.{arith}
 use borrow.Author.Tests.{eqb-true, eq-eqb}
 use Rattle.rules.specs.{Tests.{if_then_else_, _=?_}, Record.{_is_, Module}, Fault.imageOf, Refusals.refused?, Table.rowOf}
 use Rattle.rules.specs.Transfer.{TransferCall, GetFwInfo, Start, Send, Finish, Query, receivedBytes}
-use Rattle.rules.specs.{Module.{Call, OnMask, OnThresholds, OnTransfer, OnSecurity, OnNothing, Event, call, tick, power, callIn}, History.{end, afterExchange}}
+use Rattle.rules.specs.{Module.{Call, OnMask, OnHealth, OnThresholds, OnTransfer, OnSecurity, OnNothing, Event, call, tick, power, reading, callIn}, History.{end, afterExchange}}
 use Rattle.rules.specs.Transfers.{Answer, machine, Exchange, History, Kind, Started, Sent, Finished, Other, callKind, kindOf}
 use Rattle.rules.specs.{Sends.{tickCount, powerCount, powerCycles}, Demand3.{Sound, stagedWith, Stages, StagedOnce}, declared.Verdict.the-variants.Accepted}
 use Rattle.rules.specs.{declared.Image.the-variants.{Good, Bad}, declared.Phase.Phase, declared.Phase.the-variants.{Receiving, Verifying, Staged}}
 use Rattle.rules.specs.{declared.Transfer.Transfer, Beside.TakenOver, Demand1.bufferTooShort}
 use Rattle.rules.proofs.{page.Choice.{if-both, and-true}, histories.Joining.{end-join, counted-along, total-none}}
-use Rattle.rules.proofs.page.Split.{TransferPart, partOf, Act, Transfers, Others, Ticks, Powers, act, actOf, unserved?, misfit?, partVerdict, partChange, partNext, partTick, nexts, actKind}
+use Rattle.rules.proofs.page.Split.{TransferPart, partOf, Act, Transfers, Others, Ticks, Powers, Reads, act, actOf, unserved?, misfit?, partVerdict, partChange, partNext, partTick, nexts, actKind}
 use Rattle.rules.proofs.{page.Through.{shut, kind-act}, page.Facts.{never, is-phase, start-ok, send-ok, finish-ok, Tick, calm, counting, good, bad, tick-case}}
 use Rattle.rules.proofs.{page.Invariant.part-when, page.Possible.{sound-through, sound-next}, histories.Swap.still, histories.Gate.sound-end}
 
@@ -62,11 +62,13 @@ stages-act m (Transfers host a b x n answer) version w p v =
     never (sym (ap (λ (z : Phase). z is Staged) p)
     ∙ part-when (λ (u : TransferPart). (u .transfer .phase is Staged) ≡ false) (partVerdict (partOf m) a b x) (partOf m) x w (λ e. staged-change (partOf m) x w))
 stages-act m (Others a b x n answer) version w p v = never (sym (ap (λ (z : Phase). z is Staged) p) ∙ w)
+stages-act m (Reads new) version w p v = never (sym (ap (λ (z : Phase). z is Staged) p) ∙ w)
 stages-act m Ticks version w p v = (refl, tick-ripe (partOf m) version (tick-case (m .device .transfer) (m .area)) w p v)
 stages-act m Powers version w p v = never (sym (ap (λ (z : Phase). z is Staged) p))
 
 call-no-tick : (host : ℕ) (a b : Bool) (c : Call) (n : ℕ) (answer : List ℕ) → actOf host a b c n answer ≡ Ticks → ⊥
 call-no-tick host a b (OnMask revision) n answer e = let z : _≡_ {A = ℕ} 0 1 = cc in omega arith
+call-no-tick host a b OnHealth n answer e = let z : _≡_ {A = ℕ} 0 1 = cc in omega arith
 call-no-tick host a b (OnThresholds x) n answer e = let z : _≡_ {A = ℕ} 0 1 = cc in omega arith
 call-no-tick host a b (OnTransfer x) n answer e = let z : _≡_ {A = ℕ} 0 1 = cc in omega arith
 call-no-tick host a b (OnSecurity x) n answer e = let z : _≡_ {A = ℕ} 0 1 = cc in omega arith
@@ -77,6 +79,7 @@ event-tick (call host revision index request answer) e =
     absurd (call-no-tick host (unserved? revision index) (misfit? index request) (callIn revision index request) (rowOf index .answer) answer e)
 event-tick tick e = refl
 event-tick power e = let z : _≡_ {A = ℕ} 0 1 = cc in absurd (omega arith)
+event-tick (reading new) e = let z : _≡_ {A = ℕ} 0 1 = cc in absurd (omega arith)
 
 -- a module that is Staged stays as it is, but for a power cycle
 staged-act : (m : Module) (f : Act) → m .device .transfer .phase ≡ Staged → (f ≡ Powers) ⊎ (partOf (nexts m f) ≡ partOf m)
@@ -84,6 +87,7 @@ staged-act m (Transfers host a b x n answer) p = inr (quiet (partOf m) a b x (ap
 staged-act m (Others a b x n answer) p = inr refl
 staged-act m Ticks p = inr (still (partOf m) (ap (λ (q : Phase). q is Verifying) p))
 staged-act m Powers p = inl refl
+staged-act m (Reads new) p = inr refl
 
 -- Staged with a version: the phase, and the version
 record StagedAs (m : Module) (version : ℕ) : Type 0 where

@@ -3,7 +3,7 @@
 use Prim.Native.Nat.{ℕ}
 use mathlib.Core.{Path.{_≡_, refl}, Bool.{false, true≢false}, List.List}
 use Rattle.rules.specs.{Refusals.{verdict, eventChecks}, Table.rowOf, Record.Module}
-use Rattle.rules.specs.Module.{Call, Event, call, tick, power, outcome, ticked, powered, happened, callChecks, callResult, tickResult, powerResult, callIn, step}
+use Rattle.rules.specs.Module.{Call, Event, call, tick, power, reading, outcome, ticked, powered, kept, happened, callChecks, readingChecks, callResult, tickResult, powerResult, readingResult, callIn, step}
 use Rattle.rules.specs.{History.Plays, Transfers.{Answer, machine, History}, Demand3.{remains, StrikeOut}, declared.Refusal.the-variants.{R, Status}}
 use Rattle.rules.specs.{declared.Verdict.Verdict, declared.Verdict.the-variants.{Accepted, Refused}}
 use Rattle.rules.proofs.histories.Swapping.{strike}
@@ -19,11 +19,12 @@ happened-leaves Accepted changed was e = absurd (true≢false e)
 happened-leaves (Refused refusal) changed was e = refl
 
 pub leaves : (m : Module) (event : Event) → remains (step m event .reply .verdict) ≡ false → step m event .after ≡ m
-unfolding callResult tickResult powerResult
+unfolding callResult tickResult powerResult readingResult
 leaves m (call host revision index request answer) e =
     outcome-leaves (verdict (callChecks m revision index request answer)) m (callIn revision index request) (rowOf index .answer) answer e
 leaves m tick e = happened-leaves (verdict (eventChecks m)) (ticked m) m e
 leaves m power e = happened-leaves (verdict (eventChecks m)) (powered m) m e
+leaves m (reading new) e = happened-leaves (verdict (readingChecks m new)) (kept m new) m e
 
 -- from any record and any area
 pub strike-out : (m : Module) (h : History) → Plays machine m h → StrikeOut m h

@@ -1,11 +1,11 @@
--- An accepted Start or Send and the exchange after it may change places, where that is a Get FW Info, a call on the rest, or a tick.
+-- An accepted Start or Send and the exchange after it may change places, where that is a Get FW Info, a call on the rest, a tick, or a reading.
 -- Assumes nothing.
 use Prim.Native.Nat.{ℕ}
 use mathlib.Core.{Path.{_≡_, refl, sym, _∙_, ap, subst}, Bool.{Bool, false}, List.List}
 use Rattle.rules.specs.{Record.{_is_, Module}, Refusals.verdict, Transfer.{TransferCall, GetFwInfo, Start, Send, Finish, Query}, Transfers.{Answer, Exchange}}
 use Rattle.rules.specs.{Demand3.{remains, Sound}, declared.Verdict.Verdict, declared.Verdict.the-variants.{Accepted, Refused}, declared.Phase.Phase}
 use Rattle.rules.specs.{declared.Phase.the-variants.{Receiving, Verifying}, declared.Transfer.Transfer}
-use Rattle.rules.proofs.page.Split.{TransferPart, partOf, restOf, join, Act, Transfers, Others, Ticks, Powers, act, front, partVerdict, partAfter, partAnswer, partNext, partTick, answers, nexts, inner}
+use Rattle.rules.proofs.page.Split.{TransferPart, partOf, restOf, join, Act, Transfers, Others, Ticks, Powers, Reads, act, front, partVerdict, partAfter, partAnswer, partNext, partTick, answers, nexts, inner}
 use Rattle.rules.proofs.{page.Facts.{never, Kept, accepted-call, changes, start-ok, send-ok, Tick, calm, counting, good, bad, tick-case}, histories.Swapping.Swaps}
 
 -- a Start or a Send
@@ -21,8 +21,9 @@ OwnAct (Transfers host a b x n answer) = OwnCall x
 OwnAct (Others a b x n answer) = ⊥
 OwnAct Ticks = ⊥
 OwnAct Powers = ⊥
+OwnAct (Reads new) = ⊥
 
--- a Get FW Info, a call on the rest, a tick
+-- a Get FW Info, a call on the rest, a tick, a reading
 abbrev pub FreeCall : TransferCall → Type 0
 FreeCall GetFwInfo = Unit {0}
 FreeCall Start = ⊥
@@ -35,6 +36,7 @@ FreeAct (Transfers host a b x n answer) = FreeCall x
 FreeAct (Others a b x n answer) = Unit {0}
 FreeAct Ticks = Unit {0}
 FreeAct Powers = ⊥
+FreeAct (Reads new) = Unit {0}
 
 -- what a Start or a Send that was accepted tells
 pub record OwnOk (s : TransferPart) (a b : Bool) (x : TransferCall) : Type 0 where
@@ -110,6 +112,7 @@ swap m host a b x n answer Ticks e₁ e₂ w f p q =
     let later : partTick (partNext s a b x) ≡ partNext s a b x = still (partNext s a b x) (ap (λ (z : Phase). z is Verifying) (w .now)) in
     (q, subst (λ (u : TransferPart). partAnswer u a b x n answer ≡ e₁) (sym earlier) p, ap (λ (u : TransferPart). join u (restOf m)) (later ∙ ap (λ (u : TransferPart). partNext u a b x) (sym earlier)))
 swap m host a b x n answer Powers e₁ e₂ w f p q = absurd f
+swap m host a b x n answer (Reads new) e₁ e₂ w f p q = (q, p, refl)
 
 -- of exchanges
 pub record Own (x : Exchange) : Type 0 where
@@ -126,6 +129,7 @@ swap-own m (Transfers host a b x n answer) f e₁ e₂ o k r p q =
 swap-own m (Others a b x n answer) f e₁ e₂ o k r p q = absurd o
 swap-own m Ticks f e₁ e₂ o k r p q = absurd o
 swap-own m Powers f e₁ e₂ o k r p q = absurd o
+swap-own m (Reads new) f e₁ e₂ o k r p q = absurd o
 
 pub swaps : (m : Module) (x y : Exchange) → Sound m → Own x → Free y → inner .answer m (x .event) ≡ x .got → inner .answer (inner .next m (x .event)) (y .event) ≡ y .got → Swaps inner m x y
 unfolding Free

@@ -3,10 +3,10 @@
 use mathlib.Core.{Path.{_≡_, refl, sym, _∙_, ap, subst}, Logic._↔_, Bool.{Bool, true, false, not, _&&_, _||_}}
 use native.Mathlib.Omega.{arith}
 use Rattle.rules.specs.{Tests.{if_then_else_, _=?_}, With.{_with-phase_, _with-received_}}
-use Rattle.rules.specs.{Record.{_is_, given, possible, possibleNumbers, possibleFault, possibleTransfer, possibleSecurity, possibleThresholds}, Adopt.{possibleBefore, adoptable, idleAgain, adopted, Adopting}}
+use Rattle.rules.specs.{Record.{_is_, given, possible, possibleNumbers, possibleFault, possibleTransfer, possibleSecurity, possibleThresholds, possibleReading}, Adopt.{possibleBefore, adoptable, idleAgain, adopted, Adopting}}
 use Rattle.rules.specs.{declared.Phase.Phase, declared.Phase.the-variants.{Idle, Receiving, Verifying, Staged, Failed}, declared.Transfer.Transfer, declared.Device.Device}
 use borrow.Author.Tests.{eqb-true, lt-leb}
-use Rattle.rules.proofs.{page.Choice.{and-true, and-3, if-both}, page.Facts.{never, is-phase}, page.Keeps.{PhaseOk, tests, tested, faultTest, fault-tested}}
+use Rattle.rules.proofs.{page.Choice.{and-true, and-3, if-both, and-4}, page.Facts.{never, is-phase}, page.Keeps.{PhaseOk, tests, tested, faultTest, fault-tested}}
 
 -- what a record that was possible before has
 record Before (d : Device) : Type 0 where
@@ -15,22 +15,23 @@ record Before (d : Device) : Type 0 where
   no-record : d .transfer .faulty ≡ 0
   secured : possibleSecurity (d .security) ≡ true
   limited : possibleThresholds (d .thresholds) ≡ true
+  read : possibleReading (d .reading) ≡ true
 
 before : (d : Device) → possibleBefore d ≡ true → Before d
 unfolding possibleBefore
 before d e =
     let t = d .transfer in
-    let all = and-3 (possibleNumbers t && (t .reason =? 0 && t .faulty =? 0)) (possibleSecurity (d .security)) (possibleThresholds (d .thresholds)) e in
+    let all = and-4 (possibleNumbers t && (t .reason =? 0 && t .faulty =? 0)) (possibleSecurity (d .security)) (possibleThresholds (d .thresholds)) (possibleReading (d .reading)) e in
     let both = and-true (possibleNumbers t) (t .reason =? 0 && t .faulty =? 0) (all .0) in
     let none = and-true (t .reason =? 0) (t .faulty =? 0) (both .1) in
-    record { numbers = both .0; no-reason = eqb-true (t .reason) 0 (none .0); no-record = eqb-true (t .faulty) 0 (none .1); secured = all .1; limited = all .2 }
+    record { numbers = both .0; no-reason = eqb-true (t .reason) 0 (none .0); no-record = eqb-true (t .faulty) 0 (none .1); secured = all .1; limited = all .2; read = all .3 }
 
 -- it is possible where it has a fault that its phase allows: none, but in Failed, where it must have one
 by-fault : (d : Device) → Before d → possible d ≡ possibleFault (d .transfer)
 unfolding possible possibleTransfer
-by-fault d b = rw (b .numbers, b .secured, b .limited) (go (possibleFault (d .transfer)))
+by-fault d b = rw (b .numbers, b .secured, b .limited, b .read) (go (possibleFault (d .transfer)))
   where
-    go : (x : Bool) → (x && true && true) ≡ x
+    go : (x : Bool) → (x && true && true && true) ≡ x
     go true = refl
     go false = refl
 
@@ -68,7 +69,7 @@ idle-then d w f =
     let k = tests (d .transfer .phase) (d .transfer) (w .numbers) in
     let q : PhaseOk Failed (d .transfer) = subst (λ (p : Phase). PhaseOk p (d .transfer)) f (k .1) in
     let t = d .transfer with-phase Idle with-received 0 in
-    rw (tested Idle t (omega arith) (refl, q .1, q .2), fault-tested Idle t (w .no-reason, w .no-record), w .secured, w .limited)
+    rw (tested Idle t (omega arith) (refl, q .1, q .2), fault-tested Idle t (w .no-reason, w .no-record), w .secured, w .limited, w .read)
 
 possible-then : (d : Device) → adoptable d ≡ true → possible (adopted d) ≡ true
 possible-then d e = go (possible d) refl

@@ -5,7 +5,7 @@ use mathlib.Core.{Path.{_≡_, refl, sym, _∙_, ap}, Bool.{Bool, true, false}, 
 use native.Mathlib.Omega.{arith}
 use lib.ListN.{length, getD, set, replicate, length-set}
 use Rattle.rules.specs.{Record.Module, Log.{recordAt, recordsIn, shortTail}, Replay.{replayStart, moduleAfter}, History.All}
-use Rattle.rules.specs.Report.{Report, nothingCounted, Counted, answered, masked, ticked, powered, bad, recordCounted, raisedAt, raised, reportAfter, withTail, withLog, addedRow, addedGrid, _plus_}
+use Rattle.rules.specs.Report.{Report, nothingCounted, Counted, answered, masked, ticked, powered, measured, bad, recordCounted, raisedAt, raised, reportAfter, withTail, withLog, addedRow, addedGrid, _plus_}
 
 -- adding is in any order
 pub row-swap : (a b : List ℕ) → addedRow a b ≡ addedRow b a
@@ -54,13 +54,14 @@ pub record SameNumbers (r q : Report) : Type 0 where
   pub masks : r .counts .masks ≡ q .counts .masks
   pub ticks : r .counts .ticks ≡ q .counts .ticks
   pub powers : r .counts .powers ≡ q .counts .powers
+  pub readings : r .counts .readings ≡ q .counts .readings
   pub bads : r .counts .bads ≡ q .counts .bads
   pub shorts : r .counts .shorts ≡ q .counts .shorts
 
 pub equal : {r q : Report} → SameNumbers r q → r ≡ q
 equal s = λ i. record {
   grid = s .grids i;
-  counts = record { masks = s .masks i; ticks = s .ticks i; powers = s .powers i; bads = s .bads i; shorts = s .shorts i };
+  counts = record { masks = s .masks i; ticks = s .ticks i; powers = s .powers i; readings = s .readings i; bads = s .bads i; shorts = s .shorts i };
 }
 
 pub plus-swap : (r q : Report) → r plus q ≡ q plus r
@@ -70,6 +71,7 @@ plus-swap r q =
       masks = omega arith;
       ticks = omega arith;
       powers = omega arith;
+      readings = omega arith;
       bads = omega arith;
       shorts = omega arith;
     })
@@ -81,20 +83,22 @@ plus-assoc r q p =
       masks = omega arith;
       ticks = omega arith;
       powers = omega arith;
+      readings = omega arith;
       bads = omega arith;
       shorts = omega arith;
     })
 
 pub plus-raised : (r q : Report) (x : Counted) → r plus raised x q ≡ raised x (r plus q)
-plus-raised r q (answered host status) = equal (record { grids = grid-raised (r .grid) (q .grid) (host - 1) status; masks = refl; ticks = refl; powers = refl; bads = refl; shorts = refl })
-plus-raised r q masked = equal (record { grids = refl; masks = omega arith; ticks = refl; powers = refl; bads = refl; shorts = refl })
-plus-raised r q ticked = equal (record { grids = refl; masks = refl; ticks = omega arith; powers = refl; bads = refl; shorts = refl })
-plus-raised r q powered = equal (record { grids = refl; masks = refl; ticks = refl; powers = omega arith; bads = refl; shorts = refl })
-plus-raised r q bad = equal (record { grids = refl; masks = refl; ticks = refl; powers = refl; bads = omega arith; shorts = refl })
+plus-raised r q (answered host status) = equal (record { grids = grid-raised (r .grid) (q .grid) (host - 1) status; masks = refl; ticks = refl; powers = refl; readings = refl; bads = refl; shorts = refl })
+plus-raised r q masked = equal (record { grids = refl; masks = omega arith; ticks = refl; powers = refl; readings = refl; bads = refl; shorts = refl })
+plus-raised r q ticked = equal (record { grids = refl; masks = refl; ticks = omega arith; powers = refl; readings = refl; bads = refl; shorts = refl })
+plus-raised r q powered = equal (record { grids = refl; masks = refl; ticks = refl; powers = omega arith; readings = refl; bads = refl; shorts = refl })
+plus-raised r q measured = equal (record { grids = refl; masks = refl; ticks = refl; powers = refl; readings = omega arith; bads = refl; shorts = refl })
+plus-raised r q bad = equal (record { grids = refl; masks = refl; ticks = refl; powers = refl; readings = refl; bads = omega arith; shorts = refl })
 
 -- a tail's
 plus-tail : (r q : Report) (short : Bool) → r plus withTail short q ≡ withTail short (r plus q)
-plus-tail r q true = equal (record { grids = refl; masks = refl; ticks = refl; powers = refl; bads = refl; shorts = omega arith })
+plus-tail r q true = equal (record { grids = refl; masks = refl; ticks = refl; powers = refl; readings = refl; bads = refl; shorts = omega arith })
 plus-tail r q false = refl
 
 -- a log raises what it raises, whatever the report is that it is counted on
@@ -131,6 +135,7 @@ shaped-raised (answered host status) r s =
 shaped-raised masked r s = s
 shaped-raised ticked r s = s
 shaped-raised powered r s = s
+shaped-raised measured r s = s
 shaped-raised bad r s = s
 
 pub shaped-after : (r : Report) (m : Module) (log : List ℕ) (j : ℕ) → Shaped (r .grid) → Shaped (reportAfter r m log j .grid)
@@ -162,6 +167,7 @@ plus-nothing r s =
       masks = omega arith;
       ticks = omega arith;
       powers = omega arith;
+      readings = omega arith;
       bads = omega arith;
       shorts = omega arith;
     })

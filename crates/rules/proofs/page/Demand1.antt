@@ -5,13 +5,13 @@ use Prim.Native.Nat.{ℕ, _-_}
 use borrow.Author.Tests.{eqb-true, eq-eqb}
 use lib.ListN.{length, take}
 use Rattle.rules.specs.{Tests._=?_, Bytes.zeros, Record.Module, Refusals.{verdict, statusBytes, statusLength, answerAfter}, Table.{table, rowOf}}
-use Rattle.rules.specs.Module.{Call, callOf, checks, acceptedAnswer, gateChecks, callChecks, outcome, callResult}
-use Rattle.rules.specs.{Demand1.{refusalNumbers, Among, Numbered, column, RefusedBy, Answered, OfCall, Demand1}, declared.Function.Function}
-use Rattle.rules.specs.declared.Function.the-variants.{Mask, GetThreshold, GetFwInfo, Start, Send, Finish, Query, SetThreshold, GetSecurityState, SetPassphrase, Disable, Unlock, Freeze, Unserved}
-use Rattle.rules.specs.{declared.Row.Row, declared.Refusal.Refusal, declared.Refusal.the-variants.{R, Status}, declared.Verdict.Verdict}
+use Rattle.rules.specs.Module.{Call, callOf, checks, acceptedAnswer, gateChecks, callChecks, outcome, callResult, happened, kept, readingChecks, readingResult}
+use Rattle.rules.specs.{Demand1.{refusalNumbers, Among, Numbered, column, RefusedBy, Answered, OfCall, readingNumbers, OfReading, Demand1}, declared.Function.Function}
+use Rattle.rules.specs.declared.Function.the-variants.{Mask, GetHealth, GetThreshold, GetFwInfo, Start, Send, Finish, Query, SetThreshold, GetSecurityState, SetPassphrase, Disable, Unlock, Freeze, Unserved}
+use Rattle.rules.specs.{declared.Row.Row, declared.Reading.Reading, declared.Refusal.Refusal, declared.Refusal.the-variants.{R, Status}, declared.Verdict.Verdict}
 use Rattle.rules.specs.declared.Verdict.the-variants.{Accepted, Refused}
-use Rattle.rules.proofs.{page.Choice.and-true, page.Passed.{every, by-rows}, page.Rows.looked-up, page.Given.each-given}
-use Rattle.rules.proofs.page.Possible.{possible-fresh, possible-next, area-next, only-R1}
+use Rattle.rules.proofs.{page.Choice.and-true, page.Passed.{every, by-rows}, page.Rows.looked-up, page.Given.{each-given, each-by-reading}}
+use Rattle.rules.proofs.page.Possible.{possible-fresh, possible-next, area-next, only-R1-R4}
 
 -- a test for the numbers of a list, and that it tells the truth
 abbrev same-number : Refusal → Refusal → Bool
@@ -52,6 +52,7 @@ allowed n (Refused (Status status ext)) = numbered? (Status status ext) && statu
 -- the answer's length, by function
 abbrev answerOf : Function → ℕ
 answerOf Mask = 4
+answerOf GetHealth = 132
 answerOf GetThreshold = 12
 answerOf GetFwInfo = 44
 answerOf Start = 8
@@ -68,10 +69,11 @@ answerOf Unserved = 4
 
 table-answers : (index : ℕ) → rowOf index .answer ≡ answerOf (rowOf index .function)
 unfolding rowOf
-table-answers index = looked-up (λ (r : Row). r .answer ≡ answerOf (r .function)) index table (refl, (refl, (refl, (refl, (refl, (refl, (refl, (refl, (refl, (refl, (refl, (refl, (refl, refl)))))))))))))
+table-answers index = looked-up (λ (r : Row). r .answer ≡ answerOf (r .function)) index table (refl, (refl, (refl, (refl, (refl, (refl, (refl, (refl, (refl, (refl, (refl, (refl, (refl, (refl, refl))))))))))))))
 
 own-allowed : (m : Module) (f : Function) (revision : ℕ) (request : List ℕ) → every (allowed (answerOf f)) (checks m (callOf f revision request)) ≡ true
 own-allowed m Mask revision request = refl
+own-allowed m GetHealth revision request = refl
 own-allowed m GetThreshold revision request = refl
 own-allowed m GetFwInfo revision request = refl
 own-allowed m Start revision request = refl
@@ -107,6 +109,7 @@ numbers-of n (Status status ext) e =
 -- an accepted call's bytes have the function's length, and begin with status 0
 accepted-long : (m : Module) (f : Function) (revision : ℕ) (request : List ℕ) → length (acceptedAnswer m (callOf f revision request)) ≡ answerOf f
 accepted-long m Mask revision request = refl
+accepted-long m GetHealth revision request = refl
 accepted-long m GetThreshold revision request = refl
 accepted-long m GetFwInfo revision request = refl
 accepted-long m Start revision request = refl
@@ -123,6 +126,7 @@ accepted-long m Unserved revision request = refl
 
 accepted-begins : (m : Module) (f : Function) (revision : ℕ) (request : List ℕ) → (f ≡ Mask → ⊥) → take 4 (acceptedAnswer m (callOf f revision request)) ≡ zeros 4
 accepted-begins m Mask revision request other = absurd (other refl)
+accepted-begins m GetHealth revision request other = refl
 accepted-begins m GetThreshold revision request other = refl
 accepted-begins m GetFwInfo revision request other = refl
 accepted-begins m Start revision request other = refl
@@ -184,16 +188,46 @@ module _ (m : Module) (revision index : ℕ) (request answer : List ℕ) where
         answers = λ e. answered (sym replied ∙ e);
       }
 
+-- a reading: every one of its rows gives a number of its own
+happened-verdict : (v : Verdict) (changed was : Module) → happened v changed was .reply .verdict ≡ v
+happened-verdict Accepted changed was = refl
+happened-verdict (Refused refusal) changed was = refl
+
+abbrev of-its-own : Verdict → Bool
+of-its-own Accepted = true
+of-its-own (Refused refusal) = among? readingNumbers refusal
+
+of-reading : (m : Module) (new : Reading) → OfReading m new
+unfolding readingResult
+of-reading m new =
+    record {
+      judged = replied;
+      numbers = λ refusal e.
+          among-them readingNumbers refusal (ap of-its-own (sym (sym replied ∙ e)) ∙ by-rows of-its-own (readingChecks m new) refl);
+      leaves = λ refusal e. ap (λ (v : Verdict). happened v (kept m new) m .after) (sym replied ∙ e);
+      keeps = λ e. ap (λ (v : Verdict). happened v (kept m new) m .after) (sym replied ∙ e);
+      silent = silence (verdict (readingChecks m new));
+    }
+  where
+    replied : happened (verdict (readingChecks m new)) (kept m new) m .reply .verdict ≡ verdict (readingChecks m new)
+    replied = happened-verdict (verdict (readingChecks m new)) (kept m new) m
+
+    silence : (v : Verdict) → (happened v (kept m new) m .reply .length ≡ 0) × (happened v (kept m new) m .answer ≡ [])
+    silence Accepted = (refl, refl)
+    silence (Refused refusal) = (refl, refl)
+
 pub demand-1 : Demand1
 demand-1 =
     record {
       calls = of-call;
       each-given = each-given;
+      readings = of-reading;
+      each-by-reading = each-by-reading;
       events = λ m event p l.
           record {
             stays-possible = possible-next m event p l;
             keeps-size = area-next m event p l;
-            only-R1 = λ number e. only-R1 m event number p l e;
+            only-R1-R4 = λ number e. only-R1-R4 m event number p l e;
           };
       fresh-possible = possible-fresh;
     }

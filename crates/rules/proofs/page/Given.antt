@@ -6,8 +6,8 @@ use mathlib.Core.{Path.{_≡_, refl, sym, _∙_, ap}, Logic.{inl, inr}, Bool.tru
 use lib.ListN.{length, replicate}
 use Rattle.rules.specs.{Bytes.{le, zeros, zeros?, same?}, Numbers.{areaSize, lastContext}}
 use Rattle.rules.specs.With.{_with-phase_, _with-contexts_, _with-reason_, _with-enabled_, _with-frozen_, _with-transfer_, _with-security_}
-use Rattle.rules.specs.{Record.{fresh, possible, possibleTransfer, possibleSecurity, possibleThresholds, Module, moduleOf}, Refusals.verdict, Table.{rowOf, fits?}}
-use Rattle.rules.specs.{Module.callResult, Demand1.{refusalNumbers, Among, GivenBySome}, declared.Phase.Phase}
+use Rattle.rules.specs.{Record.{fresh, possible, possibleTransfer, possibleSecurity, possibleThresholds, possibleReading, Module, moduleOf}, Refusals.verdict, Table.{rowOf, fits?}}
+use Rattle.rules.specs.{Module.{callResult, readingResult}, Health.readingOf, Demand1.{refusalNumbers, Among, GivenBySome, readingNumbers, GivenByReading}, declared.Phase.Phase}
 use Rattle.rules.specs.{declared.Phase.the-variants.{Idle, Receiving, Staged, Failed}, declared.Refusal.Refusal, declared.Verdict.Verdict}
 use Rattle.rules.specs.{declared.Verdict.the-variants.{Accepted, Refused}, declared.Security.Security}
 
@@ -32,11 +32,11 @@ abbrev secured : Security → Module
 secured s = moduleOf (fresh with-security s) (zeros areaSize)
 
 abbrev asked : Module → (index : ℕ) (request : List ℕ) → Witness
-asked m index request = record { found = m; index = index; request = request; answer = zeros 64 }
+asked m index request = record { found = m; index = index; request = request; answer = zeros 132 }
 
 witnesses : List Witness
 witnesses =
-    record { found = inPhase Idle 0; index = 13; request = []; answer = zeros 63 }
+    record { found = inPhase Idle 0; index = 13; request = []; answer = zeros 131 }
     ∷ asked (moduleOf fresh []) 13 []
     ∷ asked (inPhase Receiving 0) 13 []
     ∷ asked (inPhase Idle 0) 18 []
@@ -52,7 +52,7 @@ witnesses =
     ∷ []
 
 claim : map verdictOn witnesses ≡ map Refused refusalNumbers
-unfolding zeros? same? possible possibleTransfer possibleSecurity possibleThresholds verdict rowOf fits? callResult witnesses
+unfolding zeros? same? possible possibleTransfer possibleSecurity possibleThresholds possibleReading verdict rowOf fits? callResult witnesses
 claim = refl
 
 -- the first of a list, and the others
@@ -73,3 +73,11 @@ each-of (number ∷ numbers) (w ∷ ws) e refusal (inr a) = each-of numbers ws (
 
 pub each-given : (refusal : Refusal) → Among refusalNumbers refusal → GivenBySome refusal
 each-given refusal a = each-of refusalNumbers witnesses claim refusal a
+
+-- The same of a reading's numbers: an area of no bytes, a record in which nothing was given while Receiving, and a spare of 101.
+pub each-by-reading : (refusal : Refusal) → Among readingNumbers refusal → GivenByReading refusal
+unfolding zeros? possible possibleTransfer possibleSecurity possibleThresholds possibleReading verdict readingResult
+each-by-reading refusal (inl same) = record { found = moduleOf fresh []; new = readingOf 0 0 0; refused = ap Refused (sym same) }
+each-by-reading refusal (inr (inl same)) = record { found = inPhase Receiving 0; new = readingOf 0 0 0; refused = ap Refused (sym same) }
+each-by-reading refusal (inr (inr (inl same))) = record { found = inPhase Idle 0; new = readingOf 101 0 0; refused = ap Refused (sym same) }
+each-by-reading refusal (inr (inr (inr a))) = absurd a

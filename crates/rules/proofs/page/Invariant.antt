@@ -6,7 +6,7 @@ use mathlib.Core.{Path.{_≡_, refl, sym, subst}, Bool.Bool}
 use Rattle.rules.specs.{With.{_with-ticks_, _with-phase_, _with-staged_, _with-reason_, _with-faulty_}, Fault.reasonNumber, Record.Module, Transfer.{TransferCall, receivedBytes}}
 use Rattle.rules.specs.{declared.Phase.the-variants.{Verifying, Staged, Failed}, declared.Transfer.Transfer, declared.Verdict.Verdict}
 use Rattle.rules.specs.declared.Verdict.the-variants.{Accepted, Refused}
-use Rattle.rules.proofs.page.Split.{TransferPart, _with-part_, partOf, partVerdict, partChange, partAfter, partTick, partPower, Act, Transfers, Others, Ticks, Powers, nexts}
+use Rattle.rules.proofs.page.Split.{TransferPart, _with-part_, partOf, partVerdict, partChange, partAfter, partTick, partPower, Act, Transfers, Others, Ticks, Powers, Reads, nexts}
 use Rattle.rules.proofs.{page.Faults.{Kept, bad-kept}, page.Facts.{Tick, calm, counting, good, bad, tick-case}}
 
 -- what holds of a part and of its change by an accepted call holds after the call
@@ -40,3 +40,4 @@ keeps-next {P} i m (Transfers host a b x n answer) p = part-when P (partVerdict 
 keeps-next {P} i m (Others a b x n answer) p = p
 keeps-next {P} i m Ticks p = i .ticked (partOf m) p
 keeps-next {P} i m Powers p = i .powered (partOf m) p
+keeps-next {P} i m (Reads new) p = p

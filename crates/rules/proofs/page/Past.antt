@@ -5,11 +5,11 @@ use Prim.Native.Nat.{ℕ, _≤_}
 use lib.ListN.{length}
 use borrow.Author.Tests.{eqb-true, leb-true, ltb-false, not-false}
 use Rattle.rules.specs.{Tests.{_≤?_, _=?_, _implies_, _unless_}, Bytes.zeros?, Numbers.{areaSize, answerRoom, verification, attemptLimit}}
-use Rattle.rules.specs.Record.{_is_, current, possible, possibleNumbers, possibleFault, possibleTransfer, possibleSecurity, possibleThresholds, Module}
+use Rattle.rules.specs.Record.{_is_, current, possible, possibleNumbers, possibleFault, possibleTransfer, possibleSecurity, possibleThresholds, possibleReading, Module}
 use Rattle.rules.specs.{Refusals.{Check, verdict, R1Check, eventChecks}, declared.Phase.the-variants.{Idle, Verifying, Staged}}
 use Rattle.rules.specs.{declared.Refusal.the-variants.{R, Status}, declared.Verdict.Verdict, declared.Verdict.the-variants.{Accepted, Refused}}
 use Rattle.rules.specs.declared.Device.{Device}
-use Rattle.rules.proofs.{page.Choice.{and-true, and-3, and-6}, page.Passed.{NotBy, past-rows}}
+use Rattle.rules.proofs.{page.Choice.{and-true, and-3, and-4, and-6}, page.Passed.{NotBy, past-rows}}
 
 -- the verdict is no R number
 abbrev pub NoR : Verdict → Type 0
@@ -52,14 +52,14 @@ pub attempts-most : (d : Device) → possible d ≡ true → d .security .attemp
 unfolding possible possibleSecurity
 attempts-most d e =
     let s = d .security in
-    let parts = and-3 (possibleTransfer (d .transfer)) (possibleSecurity s) (possibleThresholds (d .thresholds)) e in
+    let parts = and-4 (possibleTransfer (d .transfer)) (possibleSecurity s) (possibleThresholds (d .thresholds)) (possibleReading (d .reading)) e in
     leb-true (s .attempts) attemptLimit (and-3 (s .locked implies s .enabled) (zeros? (s .passphrase) unless s .enabled) (s .attempts ≤? attemptLimit) (parts .1) .2)
 
 pub received-most : (d : Device) → possible d ≡ true → d .transfer .received ≤ areaSize
 unfolding possible possibleTransfer
 received-most d e =
     let t = d .transfer in
-    let parts = and-3 (possibleTransfer t) (possibleSecurity (d .security)) (possibleThresholds (d .thresholds)) e in
+    let parts = and-4 (possibleTransfer t) (possibleSecurity (d .security)) (possibleThresholds (d .thresholds)) (possibleReading (d .reading)) e in
     leb-true (t .received) areaSize
     (and-6 (1 ≤? current t unless t .phase is Idle) (t .received ≤? areaSize) (t .phase is Idle implies t .received =? 0)
     (t .phase is Verifying implies 1 ≤? t .ticks && t .ticks ≤? verification) (t .ticks =? 0 unless t .phase is Verifying)

@@ -8,7 +8,7 @@ use borrow.Author.Tests.{leb-true, le-leb}
 use Rattle.rules.specs.{Tests._≤?_, History.{All, leadsTo, Throughout}}
 use Rattle.rules.specs.Report.{Report, nothingCounted, withLog, largestCount, rowFits, gridFits, countsFit, fits, fedIf, feed, fedNext, reportOf, AllTaken, addedRow, addedGrid, _plus_, Reordered, as-they-are, later, two-swapped, and-again}
 use Rattle.rules.specs.declared.Counts.{Counts}
-use Rattle.rules.proofs.{page.Choice.and-true, page.Counting.{plus-swap, plus-assoc, plus-nothing, Shaped, shaped-nothing, shaped-log, counted, adds}}
+use Rattle.rules.proofs.{page.Choice.{and-true, and-6}, page.Counting.{plus-swap, plus-assoc, plus-nothing, Shaped, shaped-nothing, shaped-log, counted, adds}}
 
 -- a log that was taken has its report
 pub taken-report : (r : Report) (log : List ℕ) → feed r log .taken ≡ true → (fits (withLog r log) ≡ true) × (fedNext r log ≡ withLog r log)
@@ -48,18 +48,16 @@ fits-first r q s t e =
     let two = and-true (gridFits (addedGrid (r .grid) (q .grid))) (countsFit ((r plus q) .counts)) e in
     let c : Counts = r .counts in
     let d : Counts = q .counts in
-    let five = and-true (c .masks + d .masks ≤? largestCount && c .ticks + d .ticks ≤? largestCount && c .powers + d .powers ≤? largestCount && c .bads + d .bads ≤? largestCount)
-    (c .shorts + d .shorts ≤? largestCount) (two .1) in
-    let four = and-true (c .masks + d .masks ≤? largestCount && c .ticks + d .ticks ≤? largestCount && c .powers + d .powers ≤? largestCount) (c .bads + d .bads ≤? largestCount) (five .0) in
-    let three = and-true (c .masks + d .masks ≤? largestCount && c .ticks + d .ticks ≤? largestCount) (c .powers + d .powers ≤? largestCount) (four .0) in
-    let first = and-true (c .masks + d .masks ≤? largestCount) (c .ticks + d .ticks ≤? largestCount) (three .0) in
+    let six = and-6 (c .masks + d .masks ≤? largestCount) (c .ticks + d .ticks ≤? largestCount) (c .powers + d .powers ≤? largestCount) (c .readings + d .readings ≤? largestCount)
+    (c .bads + d .bads ≤? largestCount) (c .shorts + d .shorts ≤? largestCount) (two .1) in
     rw (
       grid-first (r .grid) (q .grid) (s .hosts ∙ sym (t .hosts)) (s .columns) (t .columns) (two .0),
-      count-first (c .masks) (d .masks) (first .0),
-      count-first (c .ticks) (d .ticks) (first .1),
-      count-first (c .powers) (d .powers) (three .1),
-      count-first (c .bads) (d .bads) (four .1),
-      count-first (c .shorts) (d .shorts) (five .1),
+      count-first (c .masks) (d .masks) (six .0),
+      count-first (c .ticks) (d .ticks) (six .1),
+      count-first (c .powers) (d .powers) (six .2),
+      count-first (c .readings) (d .readings) (six .3),
+      count-first (c .bads) (d .bads) (six .4),
+      count-first (c .shorts) (d .shorts) (six .5),
     )
 
 -- what logs count together

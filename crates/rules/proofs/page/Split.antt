@@ -4,12 +4,12 @@ use Prim.Native.Nat.{ℕ, _+_}
 use mathlib.Core.{Bool.{Bool, not, _&&_}, List.{List, _∷_, _++_, []}}
 use Rattle.rules.specs.{Tests.{if_then_else_, _=?_}, Bytes.le, With._with-attempts_}
 use Rattle.rules.specs.{Refusals.{Check, _gives_, verdict, statusBytes, statusLength, statusAnswer, answerAfter}, Table.{rowOf, served?, fits?, mask}}
-use Rattle.rules.specs.Thresholds.{ThresholdCall, thresholdChecks, thresholdAnswer, thresholdChange}
+use Rattle.rules.specs.{Thresholds.{ThresholdCall, thresholdChecks, thresholdAnswer, thresholdChange}, Health.{healthAnswer, R4Check}}
 use Rattle.rules.specs.Transfer.{TransferCall, transferChecks, transferAnswer, transferChange, transferArea, tickChange, transferPower}
 use Rattle.rules.specs.{Security.{SecurityCall, securityChecks, securityAnswer, securityChange, securityPower}, Record.{given, Module}}
-use Rattle.rules.specs.{Module.{Call, OnMask, OnThresholds, OnTransfer, OnSecurity, OnNothing, Event, call, tick, power, reply, callIn}, History.Machine}
+use Rattle.rules.specs.{Module.{Call, OnMask, OnHealth, OnThresholds, OnTransfer, OnSecurity, OnNothing, Event, call, tick, power, reading, reply, callIn}, History.Machine}
 use Rattle.rules.specs.{Transfers.{Answer, Kind, Ticked, Powered, Other, callKind}, declared.Refusal.the-variants.{R, Status}, declared.Verdict.Verdict}
-use Rattle.rules.specs.{declared.Verdict.the-variants.{Accepted, Refused}, declared.Transfer.Transfer, declared.Thresholds.Thresholds, declared.Security.Security}
+use Rattle.rules.specs.{declared.Verdict.the-variants.{Accepted, Refused}, declared.Transfer.Transfer, declared.Thresholds.Thresholds, declared.Security.Security, declared.Reading.Reading}
 
 -- what a transfer uses; the rest
 pub record TransferPart : Type 0 where
@@ -27,25 +27,29 @@ s with-part t = record { transfer = t; area = s .area }
 pub record Rest : Type 0 where
   pub thresholds : Thresholds
   pub security : Security
+  pub reading : Reading
 
 abbrev pub partOf : Module → TransferPart
 partOf m = record { transfer = m .device .transfer; area = m .area }
 
 abbrev pub restOf : Module → Rest
-restOf m = record { thresholds = m .device .thresholds; security = m .device .security }
+restOf m = record { thresholds = m .device .thresholds; security = m .device .security; reading = m .device .reading }
 
 abbrev pub join : TransferPart → Rest → Module
-join s r = record { device = record { transfer = s .transfer; thresholds = r .thresholds; security = r .security }; area = s .area }
+join s r =
+    record { device = record { transfer = s .transfer; thresholds = r .thresholds; security = r .security; reading = r .reading }; area = s .area }
 
 -- a call that touches the rest alone
 pub data RestCall : Type 0 where
   Masks : (revision : ℕ) → RestCall
+  Healths : RestCall
   Limits : ThresholdCall → RestCall
   Locks : SecurityCall → RestCall
   Nothing : RestCall
 
 abbrev pub toCall : RestCall → Call
 toCall (Masks revision) = OnMask revision
+toCall Healths = OnHealth
 toCall (Limits x) = OnThresholds x
 toCall (Locks x) = OnSecurity x
 toCall Nothing = OnNothing
@@ -56,9 +60,11 @@ pub data Act : Type 0 where
   Others : (unserved misfit : Bool) (x : RestCall) (n : ℕ) (answer : List ℕ) → Act
   Ticks : Act
   Powers : Act
+  Reads : (new : Reading) → Act
 
 abbrev pub actOf : (host : ℕ) (unserved misfit : Bool) → Call → (n : ℕ) (answer : List ℕ) → Act
 actOf host a b (OnMask revision) n answer = Others a b (Masks revision) n answer
+actOf host a b OnHealth n answer = Others a b Healths n answer
 actOf host a b (OnThresholds x) n answer = Others a b (Limits x) n answer
 actOf host a b (OnTransfer x) n answer = Transfers host a b x n answer
 actOf host a b (OnSecurity x) n answer = Others a b (Locks x) n answer
@@ -74,6 +80,7 @@ abbrev pub act : Event → Act
 act (call host revision index request answer) = actOf host (unserved? revision index) (misfit? index request) (callIn revision index request) (rowOf index .answer) answer
 act tick = Ticks
 act power = Powers
+act (reading new) = Reads new
 
 abbrev pub front : (unserved misfit : Bool) → List Check
 front a b = (a gives Status 1 0) ∷ (b gives Status 3 0) ∷ []
@@ -111,24 +118,27 @@ partPower s = record { transfer = transferPower (s .transfer); area = s .area }
 -- a call on the rest
 abbrev pub restChecks : Rest → RestCall → List Check
 restChecks r (Masks revision) = []
+restChecks r Healths = []
 restChecks r (Limits x) = thresholdChecks x
 restChecks r (Locks x) = securityChecks (r .security) x
 restChecks r Nothing = []
 
 abbrev pub restBytes : Rest → RestCall → List ℕ
 restBytes r (Masks revision) = le 4 (mask revision)
+restBytes r Healths = statusBytes 0 0 ++ healthAnswer (r .thresholds) (r .reading)
 restBytes r (Limits x) = statusBytes 0 0 ++ thresholdAnswer (r .thresholds) x
 restBytes r (Locks x) = statusBytes 0 0 ++ securityAnswer (r .security) x
 restBytes r Nothing = statusBytes 0 0
 
 abbrev pub restChange : Rest → RestCall → Rest
 restChange r (Masks revision) = r
-restChange r (Limits x) = record { thresholds = thresholdChange (r .thresholds) x; security = r .security }
-restChange r (Locks x) = record { thresholds = r .thresholds; security = securityChange (r .security) x }
+restChange r Healths = r
+restChange r (Limits x) = record { thresholds = thresholdChange (r .thresholds) x; security = r .security; reading = r .reading }
+restChange r (Locks x) = record { thresholds = r .thresholds; security = securityChange (r .security) x; reading = r .reading }
 restChange r Nothing = r
 
 abbrev pub restMissed : Rest → Rest
-restMissed r = record { thresholds = r .thresholds; security = r .security with-attempts (r .security .attempts + 1) }
+restMissed r = record { thresholds = r .thresholds; security = r .security with-attempts (r .security .attempts + 1); reading = r .reading }
 
 abbrev pub restAfter : Verdict → Rest → RestCall → Rest
 restAfter Accepted r x = restChange r x
@@ -142,7 +152,18 @@ unfoldable pub restNext : Rest → (unserved misfit : Bool) → RestCall → Res
 restNext r a b x = restAfter (verdict (front a b ++ restChecks r x)) r x
 
 unfoldable pub restPower : Rest → Rest
-restPower r = record { thresholds = r .thresholds; security = securityPower (r .security) }
+restPower r = record { thresholds = r .thresholds; security = securityPower (r .security); reading = r .reading }
+
+-- a reading: its own spare alone may refuse it
+abbrev pub readVerdict : Reading → Verdict
+readVerdict new = verdict (R4Check new ∷ [])
+
+abbrev pub restRead : Verdict → Rest → Reading → Rest
+restRead Accepted r new = record { thresholds = r .thresholds; security = r .security; reading = new }
+restRead (Refused refusal) r new = r
+
+abbrev pub readAnswer : Verdict → Answer
+readAnswer v = record { reply = reply v 0; buffer = [] }
 
 -- the whole
 abbrev pub done : Answer
@@ -153,12 +174,14 @@ answers m (Transfers host a b x n answer) = partAnswer (partOf m) a b x n answer
 answers m (Others a b x n answer) = restAnswer (restOf m) a b x n answer
 answers m Ticks = done
 answers m Powers = done
+answers m (Reads new) = readAnswer (readVerdict new)
 
 abbrev pub nexts : Module → Act → Module
 nexts m (Transfers host a b x n answer) = join (partNext (partOf m) a b x) (restOf m)
 nexts m (Others a b x n answer) = join (partOf m) (restNext (restOf m) a b x)
 nexts m Ticks = join (partTick (partOf m)) (restOf m)
 nexts m Powers = join (partPower (partOf m)) (restPower (restOf m))
+nexts m (Reads new) = join (partOf m) (restRead (readVerdict new) (restOf m) new)
 
 abbrev pub inner : Machine Module Event Answer
 inner = record { answer = λ m event. answers m (act event); next = λ m event. nexts m (act event) }
@@ -169,3 +192,4 @@ actKind (Transfers host a b x n answer) got = callKind host (OnTransfer x) got
 actKind (Others a b x n answer) got = Other
 actKind Ticks got = Ticked
 actKind Powers got = Powered
+actKind (Reads new) got = Other

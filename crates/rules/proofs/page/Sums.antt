@@ -7,11 +7,11 @@ use lib.ListN.{length, getD, set}
 use borrow.Author.Tests.{leb-true}
 use Rattle.rules.specs.{Tests.{if_then_else_, _≤?_, _=?_}, Bytes.zeros, Numbers.answerRoom, Record.Module, Table.rowOf, Refusals.verdict}
 use Rattle.rules.specs.Module.{Call, callOf, checks, gateChecks, callChecks, callResult, outcome}
-use Rattle.rules.specs.Log.{recordSize, kindIn, hostIn, revisionIn, functionIn, lengthIn, requestIn, padded, goodCall, bare, entryOf, recordsIn, recordAt, shortTail}
+use Rattle.rules.specs.Log.{recordSize, kindIn, hostIn, revisionIn, functionIn, lengthIn, requestIn, padded, goodCall, bare, spareIn, mediaIn, controllerIn, goodReading, entryOf, recordsIn, recordAt, shortTail}
 use Rattle.rules.specs.{Replay.{replayStart, replayCall, moduleAfter, printedStatus}, History.{All, total}}
-use Rattle.rules.specs.Report.{Report, nothingCounted, Counted, answered, masked, countedAs, raisedAt, raisedCell, raised, reportAfter, countTo, ifCall, ifTick, ifPower, ifBad, gridSum, Sums, addedRow, addedGrid, withLog, fits, fedIf, feed, fedNext, AllTaken, reportOf, _plus_, Reported, NoneAbove, RequestT01}
+use Rattle.rules.specs.Report.{Report, nothingCounted, Counted, answered, masked, countedAs, raisedAt, raisedCell, raised, reportAfter, countTo, ifCall, ifTick, ifPower, ifBad, gridSum, Sums, addedRow, addedGrid, withLog, fits, fedIf, feed, fedNext, AllTaken, reportOf, _plus_, Reported, NoneAbove, RequestT01, ifReading}
 use Rattle.rules.specs.declared.Function.{Function}
-use Rattle.rules.specs.declared.Function.the-variants.{Mask, GetThreshold, GetFwInfo, Start, Send, Finish, Query, SetThreshold, GetSecurityState, SetPassphrase, Disable, Unlock, Freeze, Unserved}
+use Rattle.rules.specs.declared.Function.the-variants.{Mask, GetHealth, GetThreshold, GetFwInfo, Start, Send, Finish, Query, SetThreshold, GetSecurityState, SetPassphrase, Disable, Unlock, Freeze, Unserved}
 use Rattle.rules.specs.{declared.Refusal.the-variants.{R, Status}, declared.Verdict.Verdict, declared.Verdict.the-variants.{Accepted, Refused}}
 use Rattle.rules.specs.declared.Entry.{Entry}
 use Rattle.rules.proofs.{page.Choice.and-true, page.Passed.{every, by-rows}, page.Counting.{Shaped, shaped-nothing, shaped-after, counted, shaped-log}}
@@ -31,11 +31,12 @@ unfoldable pub hosts-of : Entry → Type 0
 hosts-of (Entry′.Call host revision index size) = GoodHost host
 hosts-of Entry′.Tick = Unit {0}
 hosts-of Entry′.Power = Unit {0}
+hosts-of (Entry′.Health spare media controller) = Unit {0}
 hosts-of Entry′.Bad = Unit {0}
 
 pub good-hosts : (bytes : List ℕ) → hosts-of (entryOf bytes)
 unfolding entryOf hosts-of
-good-hosts bytes = go (not (length bytes =? recordSize)) (kindIn bytes =? 1 && goodCall bytes) refl (kindIn bytes =? 2 && bare bytes) (kindIn bytes =? 3 && bare bytes)
+good-hosts bytes = go (not (length bytes =? recordSize)) (kindIn bytes =? 1 && goodCall bytes) refl (kindIn bytes =? 2 && bare bytes) (kindIn bytes =? 3 && bare bytes) (kindIn bytes =? 4 && goodReading bytes)
   where
     within : (kindIn bytes =? 1 && goodCall bytes) ≡ true → GoodHost (hostIn bytes)
     within e =
@@ -45,13 +46,14 @@ good-hosts bytes = go (not (length bytes =? recordSize)) (kindIn bytes =? 1 && g
         let two = and-true (1 ≤? hostIn bytes) (hostIn bytes ≤? 4) host in
         record { least = leb-true 1 (hostIn bytes) (two .0); most = leb-true (hostIn bytes) 4 (two .1) }
 
-    go : (a b : Bool) → (kindIn bytes =? 1 && goodCall bytes) ≡ b → (c d : Bool)
-        → hosts-of (if a then Entry′.Bad else callOr b (hostIn bytes) (revisionIn bytes) (functionIn bytes) (lengthIn bytes) (if c then Entry′.Tick else if d then Entry′.Power else Entry′.Bad))
-    go true b e c d = tt
-    go false true e c d = within e
-    go false false e true d = tt
-    go false false e false true = tt
-    go false false e false false = tt
+    go : (a b : Bool) → (kindIn bytes =? 1 && goodCall bytes) ≡ b → (c d h : Bool)
+        → hosts-of (if a then Entry′.Bad else callOr b (hostIn bytes) (revisionIn bytes) (functionIn bytes) (lengthIn bytes) (if c then Entry′.Tick else if d then Entry′.Power else if h then Entry′.Health (spareIn bytes) (mediaIn bytes) (controllerIn bytes) else Entry′.Bad))
+    go true b e c d h = tt
+    go false true e c d h = within e
+    go false false e true d h = tt
+    go false false e false true h = tt
+    go false false e false false true = tt
+    go false false e false false false = tt
 
 -- a printed status is at most 11
 abbrev small : Verdict → Bool
@@ -72,6 +74,7 @@ small-outcome (Refused (Status status ext)) m call n answer e = e
 small-rows : (m : Module) (f : Function) (revision index : ℕ) (request answer : List ℕ)
     → every small (gateChecks m revision index request answer ++ checks m (callOf f revision request)) ≡ true
 small-rows m Mask revision index request answer = refl
+small-rows m GetHealth revision index request answer = refl
 small-rows m GetThreshold revision index request answer = refl
 small-rows m GetFwInfo revision index request answer = refl
 small-rows m Start revision index request answer = refl
@@ -126,34 +129,38 @@ record Step (r : Report) (x : Counted) (entry : Entry) : Type 0 where
   calls : gridSum (raised x r .grid) + raised x r .counts .masks ≡ (gridSum (r .grid) + r .counts .masks) + ifCall entry
   ticks : raised x r .counts .ticks ≡ r .counts .ticks + ifTick entry
   powers : raised x r .counts .powers ≡ r .counts .powers + ifPower entry
+  readings : raised x r .counts .readings ≡ r .counts .readings + ifReading entry
   bads : raised x r .counts .bads ≡ r .counts .bads + ifBad entry
   shorts : raised x r .counts .shorts ≡ r .counts .shorts
 
 counted-call : (r : Report) (zero? : Bool) (host status revision index size : ℕ) → Shaped (r .grid) → GoodHost host → status ≤ 11
     → Step r (if zero? then masked else answered host status) (Entry′.Call host revision index size)
-counted-call r true host status revision index size s g k = record { calls = omega arith; ticks = omega arith; powers = omega arith; bads = omega arith; shorts = refl }
+counted-call r true host status revision index size s g k = record { calls = omega arith; ticks = omega arith; powers = omega arith; readings = omega arith; bads = omega arith; shorts = refl }
 counted-call r false host status revision index size s g k =
     let e = sum-cell (r .grid) host status s g k in
-    record { calls = omega arith; ticks = omega arith; powers = omega arith; bads = omega arith; shorts = refl }
+    record { calls = omega arith; ticks = omega arith; powers = omega arith; readings = omega arith; bads = omega arith; shorts = refl }
 
 step : (r : Report) (m : Module) (entry : Entry) (request : List ℕ) → Shaped (r .grid) → hosts-of entry → Step r (countedAs m entry request) entry
 unfolding hosts-of
 step r m (Entry′.Call host revision index size) request s g = counted-call r (index =? 0) host _ revision index size s g (status-most m revision index request)
-step r m Entry′.Tick request s g = record { calls = omega arith; ticks = refl; powers = omega arith; bads = omega arith; shorts = refl }
-step r m Entry′.Power request s g = record { calls = omega arith; ticks = omega arith; powers = refl; bads = omega arith; shorts = refl }
-step r m Entry′.Bad request s g = record { calls = omega arith; ticks = omega arith; powers = omega arith; bads = refl; shorts = refl }
+step r m Entry′.Tick request s g = record { calls = omega arith; ticks = refl; powers = omega arith; readings = omega arith; bads = omega arith; shorts = refl }
+step r m Entry′.Power request s g = record { calls = omega arith; ticks = omega arith; powers = refl; readings = omega arith; bads = omega arith; shorts = refl }
+step r m (Entry′.Health spare media controller) request s g =
+    record { calls = omega arith; ticks = omega arith; powers = omega arith; readings = refl; bads = omega arith; shorts = refl }
+step r m Entry′.Bad request s g = record { calls = omega arith; ticks = omega arith; powers = omega arith; readings = omega arith; bads = refl; shorts = refl }
 
 -- the first j records of a log
 record SumsTo (r : Report) (log : List ℕ) (j : ℕ) : Type 0 where
   calls : gridSum (r .grid) + r .counts .masks ≡ countTo ifCall log j
   ticks : r .counts .ticks ≡ countTo ifTick log j
   powers : r .counts .powers ≡ countTo ifPower log j
+  readings : r .counts .readings ≡ countTo ifReading log j
   bads : r .counts .bads ≡ countTo ifBad log j
   shorts : r .counts .shorts ≡ 0
 
 sums-to : (m : Module) (log : List ℕ) (j : ℕ) → SumsTo (reportAfter nothingCounted m log j) log j
 unfolding reportAfter countTo
-sums-to m log zero = record { calls = refl; ticks = refl; powers = refl; bads = refl; shorts = refl }
+sums-to m log zero = record { calls = refl; ticks = refl; powers = refl; readings = refl; bads = refl; shorts = refl }
 sums-to m log (suc j) =
     let before = sums-to m log j in
     let one = step (reportAfter nothingCounted m log j) (moduleAfter m log j) (entryOf (recordAt log j)) (requestIn (recordAt log j)) (shaped-after nothingCounted m log j shaped-nothing) (good-hosts (recordAt log j)) in
@@ -161,6 +168,7 @@ sums-to m log (suc j) =
       calls = omega (arith, before .calls, one .calls);
       ticks = omega (arith, before .ticks, one .ticks);
       powers = omega (arith, before .powers, one .powers);
+      readings = omega (arith, before .readings, one .readings);
       bads = omega (arith, before .bads, one .bads);
       shorts = one .shorts ∙ before .shorts;
     }
@@ -169,7 +177,7 @@ sums-to m log (suc j) =
 sums-log : (log : List ℕ) → Sums (counted log) (log ∷ [])
 sums-log log =
     let s = sums-to replayStart log (recordsIn log) in
-    record { calls = omega (arith, s .calls); ticks = omega (arith, s .ticks); powers = omega (arith, s .powers); bads = omega (arith, s .bads); shorts = tail (shortTail log) (s .shorts) }
+    record { calls = omega (arith, s .calls); ticks = omega (arith, s .ticks); powers = omega (arith, s .powers); readings = omega (arith, s .readings); bads = omega (arith, s .bads); shorts = tail (shortTail log) (s .shorts) }
   where
     tail : (short : Bool) {n : ℕ} → n ≡ 0 → (if short then n + 1 else n) ≡ (if short then 1 else 0) + 0
     tail true e = omega arith
@@ -190,7 +198,7 @@ sum-grids (x ∷ a) (y ∷ b) l p q =
     let f = sum-grids a b (omega arith) (p .1) (q .1) in omega arith
 
 sums-together : (logs : List (List ℕ)) → Sums (together logs) logs
-sums-together [] = record { calls = refl; ticks = refl; powers = refl; bads = refl; shorts = refl }
+sums-together [] = record { calls = refl; ticks = refl; powers = refl; readings = refl; bads = refl; shorts = refl }
 sums-together (log ∷ logs) =
     let a = sums-log log in
     let b = sums-together logs in
@@ -201,6 +209,7 @@ sums-together (log ∷ logs) =
       calls = omega (arith, a .calls, b .calls, g);
       ticks = omega (arith, a .ticks, b .ticks);
       powers = omega (arith, a .powers, b .powers);
+      readings = omega (arith, a .readings, b .readings);
       bads = omega (arith, a .bads, b .bads);
       shorts = omega (arith, a .shorts, b .shorts);
     }
