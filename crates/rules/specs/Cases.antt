@@ -8,7 +8,7 @@ use Rattle.rules.specs.Bytes.{le, zeros, same?}
 use Rattle.rules.specs.Numbers.{areaSize}
 use Rattle.rules.specs.With.{_with-transfer_, _with-phase_, _with-contexts_, _with-received_}
 use Rattle.rules.specs.Record.{_is_, fresh, Module, moduleOf}
-use Rattle.rules.specs.Health.{readingOf}
+use Rattle.rules.specs.Health.{newReading}
 use Rattle.rules.specs.Module.{Result, Event, call, tick, reading, step}
 use Rattle.rules.specs.Replay.{replayStart}
 use Rattle.rules.specs.declared.Phase.the-variants.{Receiving, Staged, Failed}
@@ -43,7 +43,7 @@ abbrev holdsFrom : Module → List Deed → (Module → Bool) → Bool
 holdsFrom m [] ends = ends m
 holdsFrom m ((event gets expected) ∷ deeds) ends = as-expected (step m event) expected && holdsFrom (step m event .after) deeds ends
 holdsFrom m (passing ticks ∷ deeds) ends = holdsFrom (after-ticks ticks m) deeds ends
-holdsFrom m (measuring spare media controller ∷ deeds) ends = holdsFrom (step m (reading (readingOf spare media controller)) .after) deeds ends
+holdsFrom m (measuring spare media controller ∷ deeds) ends = holdsFrom (step m (reading (newReading spare media controller)) .after) deeds ends
 
 abbrev pub holds : Case → Bool
 holds c = holdsFrom (c .from) (c .deeds) (c .ends)

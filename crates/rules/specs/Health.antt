@@ -10,8 +10,8 @@ use Rattle.rules.specs.Refusals.{Check, _gives_}
 use Rattle.rules.specs.declared.{Refusal.the-variants.R, Thresholds.Thresholds, Reading.Reading}
 
 -- "A health reading (spare, media and controller temperature words)"
-abbrev pub readingOf : (spare media controller : ℕ) → Reading
-readingOf spare media controller = record { spare = spare; media = media; controller = controller }
+abbrev pub newReading : (spare media controller : ℕ) → Reading
+newReading spare media controller = record { spare = spare; media = media; controller = controller }
 
 -- A temperature word, as document 001's Table 3-2 has it: "Bit[14:0] – Temperature in 0.0625 degree Celsius resolution", its size;
 abbrev pub size : (word : ℕ) → ℕ

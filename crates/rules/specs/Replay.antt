@@ -10,7 +10,7 @@ use Rattle.rules.specs.Bytes.{zeros}
 use Rattle.rules.specs.Text.{ascii, decimal, field}
 use Rattle.rules.specs.Numbers.{areaSize, answerRoom}
 use Rattle.rules.specs.Record.{_is_, fresh, given, Module, moduleOf}
-use Rattle.rules.specs.Health.{readingOf}
+use Rattle.rules.specs.Health.{newReading}
 use Rattle.rules.specs.Module.{Result, callResult, tickResult, powerResult, readingResult}
 use Rattle.rules.specs.Log.{entryOf, requestIn, recordsIn, recordAt, shortTail}
 use Rattle.rules.specs.declared.{Phase.Phase, Phase.the-variants.{Idle, Receiving, Verifying, Staged, Failed}, Transfer.Transfer, Device.Device, Refusal.the-variants.{R, Status}}
@@ -29,7 +29,7 @@ abbrev pub played : Module → Entry → (request : List ℕ) → Module
 played m (Call host revision index size) request = replayCall m revision index request .after
 played m Tick request = tickResult m .after
 played m Power request = powerResult m .after
-played m (Health spare media controller) request = readingResult m (readingOf spare media controller) .after
+played m (Health spare media controller) request = readingResult m (newReading spare media controller) .after
 played m Bad request = m
 
 -- The two numbers of a call's line. A replay never gives an R number (A33), so that the two lines with R are never used.

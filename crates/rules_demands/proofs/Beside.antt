@@ -5,7 +5,7 @@ use mathlib.Core.{Path.{_≡_, refl, sym, _∙_, ap, subst}, Logic.{_⊎_, inl, 
 use lib.ListN.{drop}
 use borrow.Author.Tests.{eqb-true, eq-eqb}
 use Rattle.rules.{specs.Tests.{if_then_else_, _=?_}, specs.Bytes.numberAt, specs.Record.{Module, _is_}}
-use Rattle.rules.{specs.Security.{GetSecurityState, SetPassphrase, Disable, Unlock, Freeze}, specs.Module.{call, tick, power, step}}
+use Rattle.rules.{specs.Security.{GetSecurityState, SetPassphrase, Disable, Unlock, Freeze}, specs.Module.{call, tick, power, reading, step}}
 use Rattle.rules.{specs.Transfers.{machine, Sent, Finished, Other}, specs.Beside.{NoSend, AreaStays, FrozenFirst, TakenOver}, specs.declared.Phase.Phase}
 use Rattle.rules.{specs.declared.Phase.the-variants.Staged, specs.declared.Security.Security, specs.declared.Verdict.Verdict}
 use Rattle.rules.{specs.declared.Verdict.the-variants.{Accepted, Refused}, proofs.page.Choice.{if-both, or-true}}
@@ -28,6 +28,7 @@ area-written stays m =
     record {
       over-a-tick = stays m tick tt;
       over-a-power-cycle = stays m power tt;
+      over-a-reading = λ new. stays m (reading new) tt;
       over-other-functions = λ host revision index request buffer other.
           by-kind host revision index request buffer
           (no-send host revision index request buffer (step m (call host revision index request buffer) .answer) (step m (call host revision index request buffer) .reply .verdict) other);

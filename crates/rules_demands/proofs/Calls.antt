@@ -2,20 +2,21 @@
 -- Assumes nothing.
 use Prim.Native.Nat.{ℕ, _+_, _-_}
 use native.Mathlib.Omega.{arith}
-use mathlib.Core.{Path.{_≡_, refl, _∙_, ap}, Bool.{Bool, true, false, false≢true}, List.{List, _++_}}
+use mathlib.Core.{Path.{_≡_, refl, _∙_, ap}, Logic.{_⊎_, inl, inr}, Bool.{Bool, true, false, false≢true}, List.{List, _++_}}
 use lib.ListN.{length, drop}
 use borrow.Author.Tests.{ltb-true}
 use Rattle.rules.{specs.Tests.{if_then_else_, _=?_}, specs.Bytes.{le, zeros}, specs.Record.{Module, moduleOf}, specs.Refusals.{answerAfter, oneAttemptMore}}
-use Rattle.rules.{specs.Table.{table, rowOf}, specs.Module.{Event, call, tick, power, callResult}, specs.Demand1.{OfCall, bufferTooShort, Demand1}}
-use Rattle.rules.{specs.declared.Row.Row, specs.declared.Function.Function}
-use Rattle.rules.specs.declared.Function.the-variants.{Mask, GetThreshold, GetFwInfo, Start, Send, Finish, Query, SetThreshold, GetSecurityState, SetPassphrase, Disable, Unlock, Freeze, Unserved}
+use Rattle.rules.{specs.Table.{table, rowOf}, specs.Module.{Event, call, tick, power, reading, callResult, readingResult}, specs.Demand1.{OfCall, OfReading, bufferTooShort, spareOver100, Demand1}}
+use Rattle.rules.{specs.declared.Row.Row, specs.declared.Function.Function, specs.declared.Reading.Reading}
+use Rattle.rules.specs.declared.Function.the-variants.{Mask, GetHealth, GetThreshold, GetFwInfo, Start, Send, Finish, Query, SetThreshold, GetSecurityState, SetPassphrase, Disable, Unlock, Freeze, Unserved}
 use Rattle.rules.{specs.declared.Refusal.the-variants.{R, Status}, specs.declared.Verdict.the-variants.{Accepted, Refused}}
-use Rattle.rules_demands.specs.Calls.{overFront, bytesTold, Served, CallWrittenOut, LendsTooLittle, Demand1WrittenOut}
+use Rattle.rules_demands.specs.Calls.{overFront, bytesTold, Served, CallWrittenOut, ReadingWrittenOut, LendsTooLittle, ReadsOver100, Demand1WrittenOut}
 use Rattle.rules_demands.proofs.Places.{looked-at}
 
 -- the mask is function 0
 abbrev mask? : Function → Bool
 mask? Mask = true
+mask? GetHealth = false
 mask? GetThreshold = false
 mask? GetFwInfo = false
 mask? Start = false
@@ -32,7 +33,7 @@ mask? Unserved = false
 
 mask-at-0 : (index : ℕ) → mask? (rowOf index .function) ≡ true → index ≡ 0
 unfolding rowOf
-mask-at-0 index = looked-at (λ (i : ℕ) (r : Row). mask? (r .function) ≡ true → i ≡ 0) index table (λ e. refl, (not-it, (not-it, (not-it, (not-it, (not-it, (not-it, (not-it, (not-it, (not-it, (not-it, (not-it, (not-it, tt))))))))))))) (λ n. not-it)
+mask-at-0 index = looked-at (λ (i : ℕ) (r : Row). mask? (r .function) ≡ true → i ≡ 0) index table (λ e. refl, (not-it, (not-it, (not-it, (not-it, (not-it, (not-it, (not-it, (not-it, (not-it, (not-it, (not-it, (not-it, (not-it, tt)))))))))))))) (λ n. not-it)
   where
     not-it : {i : ℕ} → false ≡ true → i ≡ 0
     not-it e = absurd (false≢true e)
@@ -67,9 +68,30 @@ module _ (m : Module) (revision index : ℕ) (request buffer : List ℕ) (of : O
       }
 
 lends-too-little : (event : Event) → bufferTooShort event ≡ true → LendsTooLittle event
-lends-too-little (call host revision index request buffer) e = ltb-true (length buffer) 64 e
+lends-too-little (call host revision index request buffer) e = ltb-true (length buffer) 132 e
 lends-too-little tick e = absurd (false≢true e)
 lends-too-little power e = absurd (false≢true e)
+lends-too-little (reading new) e = absurd (false≢true e)
+
+reads-over-100 : (event : Event) → spareOver100 event ≡ true → ReadsOver100 event
+reads-over-100 (call host revision index request buffer) e = absurd (false≢true e)
+reads-over-100 tick e = absurd (false≢true e)
+reads-over-100 power e = absurd (false≢true e)
+reads-over-100 (reading new) e = ltb-true 100 (new .spare) e
+
+-- R1 or R4, by the event
+which : (event : Event) (number : ℕ) → ((number ≡ 1) × (bufferTooShort event ≡ true)) ⊎ ((number ≡ 4) × (spareOver100 event ≡ true))
+    → ((number ≡ 1) × LendsTooLittle event) ⊎ ((number ≡ 4) × ReadsOver100 event)
+which event number (inl q) = inl (q .0, lends-too-little event (q .1))
+which event number (inr q) = inr (q .0, reads-over-100 event (q .1))
+
+reading-written-out : (m : Module) (new : Reading) → OfReading m new → ReadingWrittenOut m new
+reading-written-out m new of =
+    record {
+      judged-so = of .judged;
+      nothing-changed = λ refusal e. λ i. record { reply = record { verdict = e i; length = of .silent .0 i }; after = of .leaves refusal e i; answer = of .silent .1 i };
+      kept-it = λ e. λ i. record { reply = record { verdict = e i; length = of .silent .0 i }; after = of .keeps e i; answer = of .silent .1 i };
+    }
 
 pub written-out : Demand1 → Demand1WrittenOut
 written-out demand =
@@ -79,8 +101,13 @@ written-out demand =
         λ g. demand .calls (g .0) (g .1) (g .2) (g .3) (g .4) .numbers refusal (g .5),
         λ a. let g = demand .each-given refusal a in (g .found, g .revision, g .index, g .request, g .answer, g .refused),
       );
+      readings = λ m new. reading-written-out m new (demand .readings m new);
+      numbers-of-readings = λ refusal. (
+        λ g. demand .readings (g .0) (g .1) .numbers refusal (g .2),
+        λ a. let g = demand .each-by-reading refusal a in (g .found, g .new, g .refused),
+      );
       events = λ m event p l.
           let e = demand .events m event p l in
-          record { stays-possible = e .stays-possible; stays-long = e .keeps-size; R1-alone = λ number r. let q = e .only-R1 number r in (q .0, lends-too-little event (q .1)) };
+          record { stays-possible = e .stays-possible; stays-long = e .keeps-size; R1-and-R4-alone = λ number r. which event number (e .only-R1-R4 number r) };
       begins-possible = demand .fresh-possible;
     }

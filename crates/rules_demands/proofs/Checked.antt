@@ -4,7 +4,7 @@ use Prim.Native.Nat.{ℕ, _≤_}
 use mathlib.Core.{Path.{_≡_, refl, sym, _∙_, ap, subst}, Logic.{_↔_, inl, inr}, Bool.{Bool, true, false, _&&_, _||_, false≢true}, List.{List, [], _∷_}}
 use lib.ListN.{length}
 use borrow.Author.Tests.{eqb-true, eq-eqb, leb-true, le-leb}
-use Rattle.rules.{specs.Tests.{_=?_, _≤?_, _implies_}, specs.Bytes.numberAt, specs.Table.{table, rowOf}, specs.Module.{Event, call, tick, power, callOf, callIn}}
+use Rattle.rules.{specs.Tests.{_=?_, _≤?_, _implies_}, specs.Bytes.numberAt, specs.Table.{table, rowOf}, specs.Module.{Event, call, tick, power, reading, callOf, callIn}}
 use Rattle.rules.{specs.Transfers.{History, Kind, Started, Sent, Finished, Ticked, Powered, Other}, specs.Hosts.{Carries, Uses, AnsweredTo, HonestAfter, Honest}}
 use Rattle.rules.{specs.declared.Row.Row, proofs.page.Choice.{and-true, or-true}}
 use Rattle.rules_demands.specs.Words.{what, answeredIt, answeredTo, usesOwn, honestAfter, honest?}
@@ -67,28 +67,12 @@ module _ (test : ℕ → Bool) (request : List ℕ) where
   unfolding rowOf
   carries-tested revision index context =
       looked-at (λ (i : ℕ) (r : Row). (early i && late i) ≡ true → Carries (callOf (r .function) revision request) request context → test context ≡ true)
-      index table (
-        no,
-        (
-          no,
-          (
-            no,
-            (
-              no,
-              (
-                λ e k. ap test (k .1) ∙ implied (4 ≤? length request) (test (numberAt 4 0 request)) (and-true (early 14) (late 14) e .0) (le-leb 4 (length request) (k .0)),
-                (
-                  λ e k. ap test (k .1) ∙ implied (8 ≤? length request) (test (numberAt 4 4 request)) (and-true (early 15) (late 15) e .1) (le-leb 8 (length request) (k .0)),
-                  (
-                    λ e k. ap test (k .1) ∙ implied (4 ≤? length request) (test (numberAt 4 0 request)) (and-true (early 16) (late 16) e .0) (le-leb 4 (length request) (k .0)),
-                    (no, (no, (no, (no, (no, (no, tt)))))),
-                  ),
-                ),
-              ),
-            ),
-          ),
-        ),
-      )
+      index table
+      (no, (no, (no, (no, (no,
+      (λ e k. ap test (k .1) ∙ implied (4 ≤? length request) (test (numberAt 4 0 request)) (and-true (early 14) (late 14) e .0) (le-leb 4 (length request) (k .0)),
+      (λ e k. ap test (k .1) ∙ implied (8 ≤? length request) (test (numberAt 4 4 request)) (and-true (early 15) (late 15) e .1) (le-leb 8 (length request) (k .0)),
+      (λ e k. ap test (k .1) ∙ implied (4 ≤? length request) (test (numberAt 4 0 request)) (and-true (early 16) (late 16) e .0) (le-leb 4 (length request) (k .0)),
+      (no, (no, (no, (no, (no, (no, tt))))))))))))))
       (λ lacks. no)
     where
       no : {t : Bool} → t ≡ true → ⊥ → test context ≡ true
@@ -100,6 +84,7 @@ uses-own past (call caller revision index request lent) e host context u =
     (answered-to caller context past (carries-tested (λ c. answeredTo caller c past) request revision index context e (u .1)))
 uses-own past tick e host context u = absurd u
 uses-own past power e host context u = absurd u
+uses-own past (reading new) e host context u = absurd u
 
 carries-at : (revision index : ℕ) (request : List ℕ) (context at : ℕ) → Carries (callIn revision at request) request context → index ≡ at
     → Carries (callIn revision index request) request context
@@ -123,6 +108,7 @@ uses-back past (call caller revision index request lent) own =
     early-one false f e l = carries-at revision index request (numberAt 4 0 request) 16 (l, refl) (eqb-true index 16 e)
 uses-back past tick own = refl
 uses-back past power own = refl
+uses-back past (reading new) own = refl
 
 honest-after : (past h : History) → honestAfter past h ≡ true → HonestAfter past h
 honest-after past [] e = tt

@@ -5,9 +5,9 @@ use mathlib.Core.{Path.{_≡_, refl}, List.{List, [], _∷_, _++_, map}}
 use native.Mathlib.Omega.{arith}
 use lib.ListN.{length, take, drop, replicate, length-replicate}
 use Rattle.rules.{specs.Bytes.{le, zeros, zeros?}, specs.Numbers.{areaSize, answerRoom}}
-use Rattle.rules.{specs.Record.{phaseNumber, possible, possibleTransfer, possibleSecurity, possibleThresholds, Module}, specs.Refusals.verdict}
+use Rattle.rules.{specs.Record.{phaseNumber, possible, possibleTransfer, possibleSecurity, possibleThresholds, possibleReading, Module}, specs.Refusals.verdict}
 use Rattle.rules.{specs.Table.{rowOf, fits?}, specs.Image.sumOfWords, specs.Fault.{recordFault, recordsFault, firstFault, imageOf}}
-use Rattle.rules.{specs.Module.{Result, Event, call, tick, power, step, callResult, tickResult, powerResult}, specs.Replay.{printedStatus, printedExt}}
+use Rattle.rules.{specs.Module.{Result, Event, call, tick, power, reading, step, callResult, tickResult, powerResult, readingResult}, specs.Health.newReading, specs.Replay.{printedStatus, printedExt}}
 use Rattle.rules.{specs.History.historyOf, specs.Transfers.{machine, Exchange}, specs.Moves.rearranged, specs.Hosts.Honest}
 use Rattle.rules.{specs.Demand3.{freshWith, struck, EachFromOneHost, Demand3Of}, proofs.histories.Demand3.demand-3}
 use Rattle.rules_demands.proofs.Checked.{checked}
@@ -110,7 +110,7 @@ pub comes-to : told new (same-hour ++ restart)
     -- the laptop's Get FW Info
     ∷ (0 ∷ 0 ∷ 0 ∷ 0 ∷ 2 ∷ [])
     ∷ []
-unfolding zeros? possible possibleTransfer possibleSecurity possibleThresholds verdict rowOf fits? sumOfWords recordFault recordsFault firstFault imageOf callResult tickResult powerResult
+unfolding zeros? possible possibleTransfer possibleSecurity possibleThresholds possibleReading verdict rowOf fits? sumOfWords recordFault recordsFault firstFault imageOf callResult tickResult powerResult
 comes-to = refl
 
 -- who called which function, in the order of the rearranged history: the laptop's Get FW Info goes before the recorder's Start
@@ -118,15 +118,32 @@ abbrev caller : Event → ℕ × ℕ
 caller (call host revision index request answer) = (host, index)
 caller tick = (0, 0)
 caller power = (0, 1)
+caller (reading new) = (0, 2)
 
 pub moved : map (λ (x : Exchange). caller (x .event)) (rearranged (struck (historyOf machine new same-hour)))
     ≡ (2, 12) ∷ (1, 13) ∷ (1, 14) ∷ (1, 14) ∷ (1, 15) ∷ (0, 0) ∷ (0, 0) ∷ (0, 0) ∷ (0, 0) ∷ (0, 0) ∷ (0, 0) ∷ (0, 0) ∷ []
-unfolding zeros? possible possibleTransfer possibleSecurity possibleThresholds verdict rowOf fits? sumOfWords recordFault recordsFault firstFault imageOf callResult tickResult powerResult
+unfolding zeros? possible possibleTransfer possibleSecurity possibleThresholds possibleReading verdict rowOf fits? sumOfWords recordFault recordsFault firstFault imageOf callResult tickResult powerResult
 moved = refl
+
+-- Document 02, T-04: "Demand 3 lets readings move like other events": one that comes between goes before the Start, and one that is refused is struck out
+abbrev with-readings : List Event
+with-readings =
+    start recorder
+    ∷ send recorder 1 0 (take 64 image)
+    ∷ reading (newReading 90 0x0500 0x8001)
+    ∷ reading (newReading 101 0x0500 0x8001)
+    ∷ send recorder 1 64 (drop 64 image)
+    ∷ finish recorder 1
+    ∷ []
+
+pub moved-reading : map (λ (x : Exchange). caller (x .event)) (rearranged (struck (historyOf machine new with-readings)))
+    ≡ (0, 2) ∷ (1, 13) ∷ (1, 14) ∷ (1, 14) ∷ (1, 15) ∷ []
+unfolding zeros? possible possibleTransfer possibleSecurity possibleThresholds possibleReading verdict rowOf fits? callResult readingResult
+moved-reading = refl
 
 -- Both hosts are honest: the recorder uses the context that its Start answered, the laptop uses none.
 pub honest : Honest (historyOf machine new (same-hour ++ restart))
-unfolding zeros? possible possibleTransfer possibleSecurity possibleThresholds verdict rowOf fits? sumOfWords recordFault recordsFault firstFault imageOf callResult tickResult powerResult
+unfolding zeros? possible possibleTransfer possibleSecurity possibleThresholds possibleReading verdict rowOf fits? sumOfWords recordFault recordsFault firstFault imageOf callResult tickResult powerResult
 honest = checked (historyOf machine new (same-hour ++ restart)) .0 refl
 
 -- so all of demand 3 holds of it
@@ -138,5 +155,5 @@ abbrev not-honest : List Event
 not-honest = start recorder ∷ send laptop 1 0 (take 64 image) ∷ []
 
 pub needed : EachFromOneHost (struck (historyOf machine new not-honest)) → ⊥
-unfolding zeros? possible possibleTransfer possibleSecurity possibleThresholds verdict rowOf fits? callResult
+unfolding zeros? possible possibleTransfer possibleSecurity possibleThresholds possibleReading verdict rowOf fits? callResult
 needed t = let same : laptop ≡ recorder = t .1 .0 in omega arith

@@ -12,5 +12,6 @@ pub mod Examples
 pub mod Reports
 pub mod Images
 pub mod Faults
+pub mod Health
 -- That demand 3 is not empty: the incident at sea, computed.
 pub mod Incident

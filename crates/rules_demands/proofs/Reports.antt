@@ -2,8 +2,8 @@
 -- Assumes nothing.
 use mathlib.Core.{Path.{_≡_, refl, ap}, List.{List, _∷_, _++_}}
 use Prim.Native.Nat.{ℕ}
-use Rattle.rules.{specs.Bytes.{zeros?, same?}, specs.Record.{possible, possibleTransfer, possibleSecurity, possibleThresholds}, specs.Refusals.verdict}
-use Rattle.rules.{specs.Table.{rowOf, fits?, mask}, specs.Image.sumOfWords, specs.Fault.{recordFault, recordsFault, firstFault, imageOf}, specs.Module.{callResult, tickResult, powerResult}}
+use Rattle.rules.{specs.Bytes.{zeros?, same?}, specs.Record.{possible, possibleTransfer, possibleSecurity, possibleThresholds, possibleReading}, specs.Refusals.verdict}
+use Rattle.rules.{specs.Table.{rowOf, fits?, mask}, specs.Image.sumOfWords, specs.Fault.{recordFault, recordsFault, firstFault, imageOf}, specs.Module.{callResult, tickResult, powerResult, readingResult}, specs.Health.{above, trips}}
 use Rattle.rules.{specs.Text.decimal, specs.Log.entryOf, specs.Replay.moduleAfter}
 use Rattle.rules.{specs.Report.{Report, reportAfter, fits, feed, two-swapped}, proofs.page.Sums.request-T01}
 use Rattle.rules_demands.specs.Reports.{ReportsWrittenOut, ReportsHeld}
@@ -14,6 +14,7 @@ written-out =
       calls = λ logs t. request-T01 .all-taken logs t .sums .calls;
       ticks = λ logs t. request-T01 .all-taken logs t .sums .ticks;
       powers = λ logs t. request-T01 .all-taken logs t .sums .powers;
+      readings = λ logs t. request-T01 .all-taken logs t .sums .readings;
       bads = λ logs t. request-T01 .all-taken logs t .sums .bads;
       shorts = λ logs t. request-T01 .all-taken logs t .sums .shorts;
       swapped = λ first second logs t. request-T01 .all-taken (first ∷ second ∷ logs) t .any-order (second ∷ first ∷ logs) (two-swapped {logs = logs}) .1;
@@ -41,5 +42,5 @@ written-out =
     }
 
 pub reports-held : ReportsHeld
-unfolding zeros? same? possible possibleTransfer possibleSecurity possibleThresholds verdict rowOf fits? mask sumOfWords recordFault recordsFault firstFault imageOf callResult tickResult powerResult decimal entryOf moduleAfter reportAfter fits feed
-reports-held = record { printed = refl; largest-fits = refl; too-many-first = refl; too-many-fourth = refl }
+unfolding zeros? same? possible possibleTransfer possibleSecurity possibleThresholds possibleReading verdict rowOf fits? mask sumOfWords recordFault recordsFault firstFault imageOf callResult tickResult powerResult readingResult above trips decimal entryOf moduleAfter reportAfter fits feed
+reports-held = record { printed = refl; largest-fits = refl; too-many-first = refl; too-many-fourth = refl; too-many-fifth = refl }

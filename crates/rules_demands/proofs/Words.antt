@@ -2,7 +2,7 @@
 -- Assumes nothing.
 use Prim.Native.Nat.{ℕ, _+_}
 use mathlib.Core.{Path.{_≡_, refl, _∙_, ap}, Bool.{Bool, true, false, not}, List.{List, [], _∷_, _++_}}
-use Rattle.rules.{specs.Tests.{if_then_else_, _=?_}, specs.Record.Module, specs.Table.{table, rowOf}, specs.Module.{Event, call, tick, power, step, callOf, callIn}}
+use Rattle.rules.{specs.Tests.{if_then_else_, _=?_}, specs.Record.Module, specs.Table.{table, rowOf}, specs.Module.{Event, call, tick, power, reading, step, callOf, callIn}}
 use Rattle.rules.specs.History.{keep, historyOf, end, Plays}
 use Rattle.rules.specs.Transfers.{Answer, machine, Exchange, History, Kind, Started, Sent, Finished, Ticked, Powered, Other, callKind, eventKind, kindOf}
 use Rattle.rules.{specs.Sends.{isSendOf, ownSends, others, pieceOf, pieces, tickCount, ticksIn, powerCount, powerCycles}, specs.Demand3.{remains, struck}}
@@ -19,18 +19,19 @@ unfolding rowOf
 kind-call host revision index request lent Accepted n buffer =
     looked-at (λ (i : ℕ) (r : Row). callKind host (callOf (r .function) revision request) (record { reply = record { verdict = Accepted; length = n }; buffer = buffer }) ≡ acceptedAs host i request buffer)
     index table
-    (refl, (refl, (refl, (refl, (refl, (refl, (refl, (refl, (refl, (refl, (refl, (refl, (refl, tt)))))))))))))
-    (λ lacks. rw (lacks .1 .1 .1 .0, lacks .1 .1 .1 .1 .0, lacks .1 .1 .1 .1 .1 .0))
+    (refl, (refl, (refl, (refl, (refl, (refl, (refl, (refl, (refl, (refl, (refl, (refl, (refl, (refl, tt))))))))))))))
+    (λ lacks. rw (lacks .1 .1 .1 .1 .0, lacks .1 .1 .1 .1 .1 .0, lacks .1 .1 .1 .1 .1 .1 .0))
 kind-call host revision index request lent (Refused refusal) n buffer =
     looked-up (λ (r : Row). callKind host (callOf (r .function) revision request) (record { reply = record { verdict = Refused refusal; length = n }; buffer = buffer }) ≡ Other)
     index table
-    (refl, (refl, (refl, (refl, (refl, (refl, (refl, (refl, (refl, (refl, (refl, (refl, (refl, refl)))))))))))))
+    (refl, (refl, (refl, (refl, (refl, (refl, (refl, (refl, (refl, (refl, (refl, (refl, (refl, (refl, refl))))))))))))))
 
 pub kind-event : (event : Event) (got : Answer) → eventKind event got ≡ answeredAs event (got .reply .verdict) (got .buffer)
 kind-event (call host revision index request lent) got =
     kind-call host revision index request lent (got .reply .verdict) (got .reply .length) (got .buffer)
 kind-event tick got = refl
 kind-event power got = refl
+kind-event (reading new) got = refl
 
 pub kind-is : (x : Exchange) → kindOf x ≡ what x
 kind-is x = kind-event (x .event) (x .got)
@@ -110,6 +111,7 @@ tick-is (call host revision index request lent) got =
     ∙ no-count tickCount host index request (got .buffer) (got .reply .verdict) revision lent (λ h c. refl) (λ h c o p. refl) (λ h c f. refl) refl
 tick-is tick got = refl
 tick-is power got = refl
+tick-is (reading new) got = refl
 
 pub ticks-is : (h : History) → ticksIn h ≡ ticks h
 ticks-is [] = refl
@@ -122,6 +124,7 @@ power-is (call host revision index request lent) got =
     ∙ no-count powerCount host index request (got .buffer) (got .reply .verdict) revision lent (λ h c. refl) (λ h c o p. refl) (λ h c f. refl) refl
 power-is tick got = refl
 power-is power got = refl
+power-is (reading new) got = refl
 
 pub powers-is : (h : History) → powerCycles h ≡ powers h
 powers-is [] = refl

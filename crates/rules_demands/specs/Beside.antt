@@ -6,13 +6,14 @@ use lib.ListN.{length}
 use Rattle.rules.specs.Record.{possible, Module}
 use Rattle.rules.specs.Refusals.{verdict}
 use Rattle.rules.specs.Security.{GetSecurityState, SetPassphrase, Disable, Unlock, Freeze, securityChecks}
-use Rattle.rules.specs.Module.{call, tick, power, step}
-use Rattle.rules.specs.declared.{Refusal.Refusal, Refusal.the-variants.Status, Verdict.the-variants.{Accepted, Refused}, Phase.the-variants.Staged, Security.Security}
+use Rattle.rules.specs.Module.{call, tick, power, reading, step}
+use Rattle.rules.specs.declared.{Refusal.Refusal, Refusal.the-variants.Status, Verdict.the-variants.{Accepted, Refused}, Phase.the-variants.Staged, Security.Security, Reading.Reading}
 
 -- nothing but an accepted call of function 14 changes the area
 pub record AreaWrittenOut (m : Module) : Type 0 where
   pub over-a-tick : step m tick .after .area ≡ m .area
   pub over-a-power-cycle : step m power .after .area ≡ m .area
+  pub over-a-reading : (new : Reading) → step m (reading new) .after .area ≡ m .area
   pub over-other-functions : (host revision index : ℕ) (request buffer : List ℕ) → (index ≡ 14 → ⊥)
       → step m (call host revision index request buffer) .after .area ≡ m .area
   pub over-refusals : (host revision index : ℕ) (request buffer : List ℕ) (refusal : Refusal)

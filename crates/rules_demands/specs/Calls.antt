@@ -6,12 +6,12 @@ use mathlib.Core.{Path._≡_, Logic.{_⊎_, _↔_}, Bool.{true, not, _||_}, List
 use lib.ListN.{length, take, drop}
 use Rattle.rules.specs.Tests.{if_then_else_, _=?_, _<?_}
 use Rattle.rules.specs.Bytes.{le, zeros}
-use Rattle.rules.specs.With.{_with-attempts_, _with-security_}
+use Rattle.rules.specs.With.{_with-attempts_, _with-security_, _with-reading_}
 use Rattle.rules.specs.Record.{fresh, possible, Module, moduleOf}
 use Rattle.rules.specs.Refusals.{_gives_, verdict}
 use Rattle.rules.specs.Table.{rowOf, servedCheck, lengthCheck}
-use Rattle.rules.specs.Module.{Result, reply, callIn, checks, callResult, Event, call, tick, power, step}
-use Rattle.rules.specs.declared.{Refusal.Refusal, Refusal.the-variants.{R, Status}, Verdict.the-variants.{Accepted, Refused}}
+use Rattle.rules.specs.Module.{Result, reply, callIn, checks, callResult, readingResult, Event, call, tick, power, reading, step}
+use Rattle.rules.specs.declared.{Refusal.Refusal, Refusal.the-variants.{R, Status}, Verdict.the-variants.{Accepted, Refused}, Reading.Reading}
 
 -- bytes over the front of a buffer
 abbrev pub overFront : (bytes buffer : List ℕ) → List ℕ
@@ -43,7 +43,7 @@ pub record CallWrittenOut (m : Module) (revision index : ℕ) (request buffer : 
   -- the first row that is true decides, in the page's order
   pub judged : callResult m revision index request buffer .reply .verdict
       ≡ verdict
-      ((length buffer <? 64 gives R 1)
+      ((length buffer <? 132 gives R 1)
       ∷ (not (length (m .area) =? 16384) gives R 2)
       ∷ (not (possible (m .device)) gives R 3)
       ∷ servedCheck revision index
@@ -95,20 +95,45 @@ IsGiven refusal =
     × (buffer : List ℕ)
     × (callResult m revision index request buffer .reply .verdict ≡ Refused refusal)
 
--- the event is a call with a buffer of less than 64 bytes
+-- the event is a call with a buffer of less than 132 bytes
 abbrev pub LendsTooLittle : Event → Type 0
-LendsTooLittle (call host revision index request buffer) = length buffer < 64
+LendsTooLittle (call host revision index request buffer) = length buffer < 132
 LendsTooLittle tick = ⊥
 LendsTooLittle power = ⊥
+LendsTooLittle (reading new) = ⊥
+
+-- the event is a reading of more than 100
+abbrev pub ReadsOver100 : Event → Type 0
+ReadsOver100 (call host revision index request buffer) = ⊥
+ReadsOver100 tick = ⊥
+ReadsOver100 power = ⊥
+ReadsOver100 (reading new) = 100 < new .spare
+
+-- What a reading comes to: the first row that is true refuses it, and nothing changes; or it is kept, and nothing else changes.
+pub record ReadingWrittenOut (m : Module) (new : Reading) : Type 0 where
+  pub judged-so : readingResult m new .reply .verdict
+      ≡ verdict ((not (length (m .area) =? 16384) gives R 2) ∷ (not (possible (m .device)) gives R 3) ∷ (100 <? new .spare gives R 4) ∷ [])
+  pub nothing-changed : (refusal : Refusal) → readingResult m new .reply .verdict ≡ Refused refusal
+      → readingResult m new ≡ record { reply = reply (Refused refusal) 0; after = m; answer = [] }
+  pub kept-it : readingResult m new .reply .verdict ≡ Accepted
+      → readingResult m new ≡ record { reply = reply Accepted 0; after = moduleOf (m .device with-reading new) (m .area); answer = [] }
+
+-- some reading is refused by this number
+abbrev pub IsGivenByReading : Refusal → Type 0
+IsGivenByReading refusal = (m : Module) × (new : Reading) × (readingResult m new .reply .verdict ≡ Refused refusal)
 
 pub record EventWrittenOut (m : Module) (event : Event) : Type 0 where
   pub stays-possible : possible (step m event .after .device) ≡ true
   pub stays-long : length (step m event .after .area) ≡ 16384
-  pub R1-alone : (number : ℕ) → step m event .reply .verdict ≡ Refused (R number) → (number ≡ 1) × LendsTooLittle event
+  pub R1-and-R4-alone : (number : ℕ) → step m event .reply .verdict ≡ Refused (R number)
+      → ((number ≡ 1) × LendsTooLittle event)
+      ⊎ ((number ≡ 4) × ReadsOver100 event)
 
 pub record Demand1WrittenOut : Type 0 where
   pub calls : (m : Module) (revision index : ℕ) (request buffer : List ℕ) → CallWrittenOut m revision index request buffer
   -- a number is given exactly when it is in the page's table
   pub numbers : (refusal : Refusal) → IsGiven refusal ↔ OneOf numbersOfThePage refusal
+  pub readings : (m : Module) (new : Reading) → ReadingWrittenOut m new
+  pub numbers-of-readings : (refusal : Refusal) → IsGivenByReading refusal ↔ OneOf (R 2 ∷ R 3 ∷ R 4 ∷ []) refusal
   pub events : (m : Module) (event : Event) → possible (m .device) ≡ true → length (m .area) ≡ 16384 → EventWrittenOut m event
   pub begins-possible : possible fresh ≡ true

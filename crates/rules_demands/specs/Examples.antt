@@ -9,13 +9,13 @@ use Rattle.rules.specs.Record.{_is_, fresh, Module, moduleOf}
 use Rattle.rules.specs.Module.{Event, call}
 use Rattle.rules.specs.Text.{ascii}
 use Rattle.rules.specs.Replay.{replayStart, replayText}
-use Rattle.rules.specs.Cases.{Deed, _gets_, passing, Case, cases, failing}
+use Rattle.rules.specs.Cases.{Deed, _gets_, passing, measuring, Case, cases, failing}
 use Rattle.rules.specs.Texts.{texts, logOf, textOf}
 use Rattle.rules.specs.declared.{Phase.Phase, Phase.the-variants.{Idle, Verifying, Staged, Failed}}
 
--- a Start and a Finish at revision 2, lent 64 bytes of this number
+-- a Start and a Finish at revision 2, lent 132 bytes of this number
 abbrev asks : (index : ℕ) (request : List ℕ) (lent : ℕ) → Event
-asks index request lent = call 1 2 index request (replicate 64 lent)
+asks index request lent = call 1 2 index request (replicate 132 lent)
 
 abbrev row : List Deed → (Module → Bool) → Case
 row deeds ends = record { from = replayStart; deeds = deeds; ends = ends }
@@ -47,6 +47,12 @@ wrongCases =
     ∷ passing 7
     ∷ [])
     (phase-is Failed)
+    -- a reading: nothing is enabled, and so nothing has tripped
+    ∷ row
+    (measuring 1 2 3
+    ∷ asks 1 [] 255 gets ((0 ∷ 0 ∷ 0 ∷ 0 ∷ 0x1A ∷ 0x02 ∷ 0 ∷ 0 ∷ 0 ∷ 0 ∷ 0 ∷ 0 ∷ 0 ∷ 1 ∷ 0 ∷ 1 ∷ 2 ∷ 0 ∷ 3 ∷ 0 ∷ []) ++ replicate 112 0)
+    ∷ [])
+    (λ m. true)
     ∷ []
 
 -- Modules that are nearly the end of some row, each wrong in one thing: a version, a phase, the bytes received, a byte of the area.
@@ -76,9 +82,9 @@ looking = 4 ∷ 5 ∷ 6 ∷ 11 ∷ 12 ∷ 13 ∷ []
 
 pub record CasesHeld : Type 0 where
   pub hold : failing 0 cases ≡ []
-  pub fifteen : length cases ≡ 15
-  pub how-long : map (λ c. length (c .deeds)) cases ≡ 1 ∷ 1 ∷ 1 ∷ 1 ∷ 1 ∷ 1 ∷ 1 ∷ 1 ∷ 2 ∷ 2 ∷ 2 ∷ 4 ∷ 5 ∷ 5 ∷ 12 ∷ []
-  pub wrong-ones-fail : failing 0 wrongCases ≡ 0 ∷ 1 ∷ 2 ∷ 3 ∷ 4 ∷ 5 ∷ []
+  pub seventeen : length cases ≡ 17
+  pub how-long : map (λ c. length (c .deeds)) cases ≡ 1 ∷ 1 ∷ 1 ∷ 1 ∷ 1 ∷ 1 ∷ 1 ∷ 1 ∷ 2 ∷ 2 ∷ 2 ∷ 4 ∷ 5 ∷ 5 ∷ 12 ∷ 2 ∷ 3 ∷ []
+  pub wrong-ones-fail : failing 0 wrongCases ≡ 0 ∷ 1 ∷ 2 ∷ 3 ∷ 4 ∷ 5 ∷ 6 ∷ []
   pub ends-seen : map (notTheEndOf 0 cases) nearMisses ≡ replicate 7 looking
 
 pub record TextsHeld : Type 0 where
@@ -88,6 +94,7 @@ pub record TextsHeld : Type 0 where
       ∷ ascii "record kind status ext length\nend idle 0\n"
       ∷ ascii "record kind status ext length\n0 call 0 0 8\n1 short\nend receiving 1\n"
       ∷ ascii "record kind status ext length\n0 power\n1 bad\n2 call - - 4\nend idle 0\n"
+      ∷ ascii "record kind status ext length\n0 health\n1 bad\n2 call 0 0 132\nend idle 0\n"
       ∷ ascii "record kind status ext length\n0 call 0 0 8\n1 call 0 0 4\nend verifying 1\n"
       ∷ ascii "record kind status ext length\n0 call 0 0 8\n1 call 0 0 4\n2 tick\n3 tick\n4 tick\n5 tick\n6 tick\n7 tick\n8 tick\n9 tick\n10 call 7 3 12\nend failed 1 size 0\n"
       ∷ ascii "record kind status ext length\n0 call 0 0 8\n1 call 0 0 4\n2 call 0 0 4\n3 tick\n4 tick\n5 tick\n6 tick\n7 tick\n8 tick\n9 tick\n10 tick\nend failed 1 sum 3\n"

@@ -12,3 +12,5 @@ pub mod Reports
 pub mod Images
 -- The first fault by the bytes, and records from before.
 pub mod Faults
+-- Readings: words by their heights, alarms and function 1 by examples.
+pub mod Health

@@ -7,7 +7,7 @@ use lib.ListN.{length, drop}
 use Rattle.rules.specs.Tests.{if_then_else_, _≤?_, _=?_, _implies_}
 use Rattle.rules.specs.Bytes.{numberAt}
 use Rattle.rules.specs.Record.{Module}
-use Rattle.rules.specs.Module.{Event, call, tick, power, step}
+use Rattle.rules.specs.Module.{Event, call, tick, power, reading, step}
 use Rattle.rules.specs.Transfers.{Exchange, History, Kind, Started, Sent, Finished, Ticked, Powered, Other}
 use Rattle.rules.specs.declared.{Refusal.the-variants.{R, Status}, Verdict.Verdict, Verdict.the-variants.{Accepted, Refused}}
 
@@ -24,11 +24,12 @@ answeredAs (call host revision index request lent) Accepted buffer = acceptedAs 
 answeredAs (call host revision index request lent) (Refused refusal) buffer = Other
 answeredAs tick verdict buffer = Ticked
 answeredAs power verdict buffer = Powered
+answeredAs (reading new) verdict buffer = Other
 
 abbrev pub what : Exchange → Kind
 what x = answeredAs (x .event) (x .got .reply .verdict) (x .got .buffer)
 
--- what remains: accepted calls, ticks and power cycles, and wrong passphrases
+-- what remains: accepted calls and readings, ticks and power cycles, and wrong passphrases
 abbrev pub stays : Verdict → Bool
 stays Accepted = true
 stays (Refused (R number)) = false
@@ -74,6 +75,7 @@ abbrev pub oneForTick : Event → ℕ
 oneForTick (call host revision index request lent) = 0
 oneForTick tick = 1
 oneForTick power = 0
+oneForTick (reading new) = 0
 
 abbrev pub ticks : History → ℕ
 ticks [] = 0
@@ -83,6 +85,7 @@ abbrev pub oneForPower : Event → ℕ
 oneForPower (call host revision index request lent) = 0
 oneForPower tick = 0
 oneForPower power = 1
+oneForPower (reading new) = 0
 
 abbrev pub powers : History → ℕ
 powers [] = 0
@@ -122,6 +125,7 @@ usesOwn past (call host revision index request lent) =
     && (index =? 15 implies (8 ≤? length request implies answeredTo host (numberAt 4 4 request) past))
 usesOwn past tick = true
 usesOwn past power = true
+usesOwn past (reading new) = true
 
 abbrev pub honestAfter : (past h : History) → Bool
 honestAfter past [] = true

@@ -6,6 +6,7 @@ ghost use Rattle.rules.specs.Report.{RequestT01};
 ghost use Rattle.rules.specs.Made.{RequestT02};
 ghost use Rattle.rules.specs.Fault.{RequestT03};
 ghost use Rattle.rules.specs.Adopt.{Adopting};
+ghost use Rattle.rules.specs.Health.{RequestT04};
 ghost use Rattle.rules_demands.specs.Calls.{Demand1WrittenOut};
 ghost use Rattle.rules_demands.specs.Histories.{Demand3WrittenOut};
 ghost use Rattle.rules_demands.specs.Beside.{BesideWrittenOut};
@@ -13,6 +14,7 @@ ghost use Rattle.rules_demands.specs.Examples.{CasesHeld, TextsHeld};
 ghost use Rattle.rules_demands.specs.Reports.{ReportsWrittenOut, ReportsHeld};
 ghost use Rattle.rules_demands.specs.Images.{ImagesWrittenOut, ImagesHeld};
 ghost use Rattle.rules_demands.specs.Faults.{FaultsWrittenOut, AdoptingWrittenOut, FaultsHeld};
+ghost use Rattle.rules_demands.specs.Health.{HealthWrittenOut, HealthHeld};
 
 // Any call gets an answer, and a refusal leaves what it must.
 pub fn demand_1()
@@ -59,4 +61,11 @@ pub fn request_t03()
     ensures { λ r. ⌜ FaultsWrittenOut ⌝ }
     ensures { λ r. ⌜ AdoptingWrittenOut ⌝ }
     ensures { λ r. ⌜ FaultsHeld ⌝ }
+{}
+
+// Document 02, T-04: words are compared in the order of the integers that they measure; the same written out; and examples.
+pub fn request_t04()
+    ensures { λ r. ⌜ RequestT04 ⌝ }
+    ensures { λ r. ⌜ HealthWrittenOut ⌝ }
+    ensures { λ r. ⌜ HealthHeld ⌝ }
 {}

@@ -7,7 +7,7 @@ use lib.ListN.{length, replicate}
 use Rattle.rules.specs.{Bytes.{le, zeros, zeros?, same?}, Numbers.{areaSize, lastContext}}
 use Rattle.rules.specs.With.{_with-phase_, _with-contexts_, _with-reason_, _with-enabled_, _with-frozen_, _with-transfer_, _with-security_}
 use Rattle.rules.specs.{Record.{fresh, possible, possibleTransfer, possibleSecurity, possibleThresholds, possibleReading, Module, moduleOf}, Refusals.verdict, Table.{rowOf, fits?}}
-use Rattle.rules.specs.{Module.{callResult, readingResult}, Health.readingOf, Demand1.{refusalNumbers, Among, GivenBySome, readingNumbers, GivenByReading}, declared.Phase.Phase}
+use Rattle.rules.specs.{Module.{callResult, readingResult}, Health.newReading, Demand1.{refusalNumbers, Among, GivenBySome, readingNumbers, GivenByReading}, declared.Phase.Phase}
 use Rattle.rules.specs.{declared.Phase.the-variants.{Idle, Receiving, Staged, Failed}, declared.Refusal.Refusal, declared.Verdict.Verdict}
 use Rattle.rules.specs.{declared.Verdict.the-variants.{Accepted, Refused}, declared.Security.Security}
 
@@ -77,7 +77,7 @@ each-given refusal a = each-of refusalNumbers witnesses claim refusal a
 -- The same of a reading's numbers: an area of no bytes, a record in which nothing was given while Receiving, and a spare of 101.
 pub each-by-reading : (refusal : Refusal) → Among readingNumbers refusal → GivenByReading refusal
 unfolding zeros? possible possibleTransfer possibleSecurity possibleThresholds possibleReading verdict readingResult
-each-by-reading refusal (inl same) = record { found = moduleOf fresh []; new = readingOf 0 0 0; refused = ap Refused (sym same) }
-each-by-reading refusal (inr (inl same)) = record { found = inPhase Receiving 0; new = readingOf 0 0 0; refused = ap Refused (sym same) }
-each-by-reading refusal (inr (inr (inl same))) = record { found = inPhase Idle 0; new = readingOf 101 0 0; refused = ap Refused (sym same) }
+each-by-reading refusal (inl same) = record { found = moduleOf fresh []; new = newReading 0 0 0; refused = ap Refused (sym same) }
+each-by-reading refusal (inr (inl same)) = record { found = inPhase Receiving 0; new = newReading 0 0 0; refused = ap Refused (sym same) }
+each-by-reading refusal (inr (inr (inl same))) = record { found = inPhase Idle 0; new = newReading 101 0 0; refused = ap Refused (sym same) }
 each-by-reading refusal (inr (inr (inr a))) = absurd a

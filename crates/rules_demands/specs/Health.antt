@@ -1,0 +1,34 @@
+-- Document 02, T-04, written out, and by examples: words compared by their heights over the lowest word; alarms; and the bytes of function 1.
+-- Assumes nothing.
+use Prim.Native.Nat.{ℕ, _+_, _-_, _<_}
+use mathlib.Core.{Path._≡_, Bool.{Bool, true, false}, List.{List, [], _∷_, _++_, map}}
+use lib.ListN.{replicate}
+use Rattle.rules.specs.Tests.{if_then_else_, _<?_}
+use Rattle.rules.specs.Health.{newReading, above, trips, healthAnswer}
+use Rattle.rules.specs.declared.Thresholds.{Thresholds}
+
+-- how high a word stands over FFFFh, the lowest
+abbrev pub height : (word : ℕ) → ℕ
+height word = if 32767 <? word then 65535 - word else 32767 + word
+
+pub record HealthWrittenOut : Type 0 where
+  pub higher : (word other : ℕ) → word < 65536 → other < 65536 → above word other ≡ (height other <? height word)
+
+-- these alarms enabled; spare 20, media 0500h and controller 8001h are the thresholds
+abbrev pub enabled : ℕ → Thresholds
+enabled bits = record { enable = bits; spare = 20; media = 0x0500; controller = 0x8001 }
+
+abbrev pub trippedBy : (spare media controller : ℕ) (bits : ℕ) → ℕ
+trippedBy spare media controller bits = trips (enabled bits) (newReading spare media controller)
+
+pub record HealthHeld : Type 0 where
+  -- each side of 0, and 8000h beside 0
+  pub words : map (λ word. above word 0x0000) (0x8001 ∷ 0x8000 ∷ 0x0000 ∷ 0x0001 ∷ 0x7FFF ∷ 0xFFFF ∷ []) ≡ false ∷ false ∷ false ∷ true ∷ true ∷ false ∷ []
+  pub beside-8000h : map (λ word. above word 0x8000) (0x8001 ∷ 0x8000 ∷ 0x0000 ∷ 0x0001 ∷ 0x7FFF ∷ 0xFFFF ∷ []) ≡ false ∷ false ∷ false ∷ true ∷ true ∷ false ∷ []
+  -- an alarm that is off trips nothing; each trips its own bit
+  pub each : map (trippedBy 19 0x0501 0x8000) (0 ∷ 1 ∷ 2 ∷ 3 ∷ 4 ∷ 5 ∷ 6 ∷ 7 ∷ []) ≡ 0 ∷ 1 ∷ 2 ∷ 3 ∷ 4 ∷ 5 ∷ 6 ∷ 7 ∷ []
+  -- what is at its threshold has not tripped
+  pub at-threshold : map (trippedBy 20 0x0500 0x8001) (0 ∷ 1 ∷ 2 ∷ 4 ∷ 7 ∷ []) ≡ 0 ∷ 0 ∷ 0 ∷ 0 ∷ 0 ∷ []
+  pub one-each : map (λ spare. trippedBy spare 0x0500 0x8001 7) (19 ∷ 20 ∷ []) ≡ 1 ∷ 0 ∷ []
+  pub bytes : healthAnswer (enabled 7) (newReading 19 0x0501 0x8000)
+      ≡ (0x1A ∷ 0x02 ∷ 0x00 ∷ 0x00 ∷ 0 ∷ 0 ∷ 0 ∷ 0 ∷ 0 ∷ 19 ∷ 0 ∷ 7 ∷ 0x01 ∷ 0x05 ∷ 0x00 ∷ 0x80 ∷ []) ++ replicate 112 0
