@@ -60,8 +60,8 @@ module _ (s : List ℕ) (bytes : Bytes s) (f : Fine s) where
   byte-of : (at : ℕ) {n : ℕ} → at + 1 ≤ 128 → n ≡ numberAt 1 at s → le 1 n ≡ take 1 (drop at s)
   byte-of at h e = ap (le 1) e ∙ field 1 at h
 
-  middle : zeros 24 ≡ take 24 (drop 40 s)
-  middle = ap zeros (sym (part-long 24 40 (omega (arith, f .long)))) ∙ zeros-are (take 24 (drop 40 s)) (f .between)
+  middle : zeros 18 ≡ take 18 (drop 46 s)
+  middle = ap zeros (sym (part-long 18 46 (omega (arith, f .long)))) ∙ zeros-are (take 18 (drop 46 s)) (f .between)
 
   tail : zeros 32 ≡ drop 96 s
   tail =
@@ -73,7 +73,8 @@ module _ (s : List ℕ) (bytes : Bytes s) (f : Fine s) where
       ++ (take 4 (drop 8 s) ++ take 4 (drop 12 s) ++ take 8 (drop 16 s) ++ take 8 (drop 24 s))
       ++ (take 1 (drop 32 s) ++ take 1 (drop 33 s) ++ take 2 (drop 34 s) ++ take 2 (drop 36 s))
       ++ (take 1 (drop 38 s) ++ take 1 (drop 39 s))
-      ++ take 24 (drop 40 s)
+      ++ (take 1 (drop 40 s) ++ take 1 (drop 41 s) ++ take 2 (drop 42 s) ++ take 2 (drop 44 s))
+      ++ take 18 (drop 46 s)
       ++ (take 32 (drop 64 s) ++ drop 96 s)
   unfolding encodeOf recordOf
   fields-joined = λ i.
@@ -85,23 +86,25 @@ module _ (s : List ℕ) (bytes : Bytes s) (f : Fine s) where
       ++ (field 4 8 (omega arith) i ++ field 4 12 (omega arith) i ++ field 8 16 (omega arith) i ++ field 8 24 (omega arith) i)
       ++ (field 1 32 (omega arith) i ++ byte-of 33 (omega arith) (sym (f .unused)) i ++ field 2 34 (omega arith) i ++ field 2 36 (omega arith) i)
       ++ (field 1 38 (omega arith) i ++ field 1 39 (omega arith) i)
+      ++ (field 1 40 (omega arith) i ++ byte-of 41 (omega arith) (sym (f .free)) i ++ field 2 42 (omega arith) i ++ field 2 44 (omega arith) i)
       ++ middle i
       ++ (take 32 (drop 64 s) ++ tail i)
 
-  parts-joined : encodeOf (recordOf s) ≡ take 8 s ++ take 24 (drop 8 s) ++ take 6 (drop 32 s) ++ take 2 (drop 38 s) ++ take 24 (drop 40 s) ++ (take 32 (drop 64 s) ++ drop 96 s)
+  parts-joined : encodeOf (recordOf s) ≡ take 8 s ++ take 24 (drop 8 s) ++ take 6 (drop 32 s) ++ take 2 (drop 38 s) ++ take 6 (drop 40 s) ++ take 18 (drop 46 s) ++ (take 32 (drop 64 s) ++ drop 96 s)
   parts-joined =
       fields-joined
       ∙ (λ i. also 0 6 2 s (also 0 5 1 s (also 0 4 1 s (also 0 3 1 s (also 0 2 1 s (also 0 1 1 s refl))))) i
       ++ also 8 16 8 s (also 8 8 8 s (also 8 4 4 s refl)) i
       ++ also 32 4 2 s (also 32 2 2 s (also 32 1 1 s refl)) i
       ++ also 38 1 1 s refl i
-      ++ take 24 (drop 40 s)
+      ++ also 40 4 2 s (also 40 2 2 s (also 40 1 1 s refl)) i
+      ++ take 18 (drop 46 s)
       ++ (take 32 (drop 64 s) ++ drop 96 s))
 
   all-joined : encodeOf (recordOf s) ≡ s
   all-joined =
       parts-joined
-      ∙ (λ i. also 0 40 24 s (also 0 38 2 s (also 0 32 6 s (also 0 8 24 s refl))) i
+      ∙ (λ i. also 0 46 18 s (also 0 40 6 s (also 0 38 2 s (also 0 32 6 s (also 0 8 24 s refl)))) i
       ++ (ap (λ (l : List ℕ). take 32 (drop 64 s) ++ l) (sym (drop-drop 32 64 s)) ∙ take-append-drop 32 (drop 64 s)) i)
       ∙ take-append-drop 64 s
 

@@ -6,7 +6,7 @@ use lib.{ListN.{length, take, drop, length-append}, Seq.{take-at, drop-at}}
 use Rattle.rules.{specs.Tests.{_≤?_, _=?_}, specs.Bytes.{le, ofLe, numberAt, zeros, zeros?}, specs.Record.phaseNumber, specs.declared.Phase.Phase}
 use Rattle.rules.{specs.declared.Phase.the-variants.{Idle, Receiving, Verifying, Staged, Failed}, specs.declared.Device.Device}
 use Rattle.rules.proofs.page.Le.{ofLe-le}
-use Rattle.device_bytes.specs.Encoding.{flag, firstBytes, transferBytes, encodedThresholds, faultBytes, encodeOf, phaseOf, record?, recordOf, decodeOf}
+use Rattle.device_bytes.specs.Encoding.{flag, firstBytes, transferBytes, encodedThresholds, faultBytes, readingBytes, encodeOf, phaseOf, record?, recordOf, decodeOf}
 
 -- what the types say of a record's fields
 pub record InRange (d : Device) : Type 0 where
@@ -22,6 +22,9 @@ pub record InRange (d : Device) : Type 0 where
   pub media : d .thresholds .media < 256 ^ 2
   pub controller : d .thresholds .controller < 256 ^ 2
   pub attempts : d .security .attempts < 256 ^ 1
+  pub read-spare : d .reading .spare < 256 ^ 1
+  pub read-media : d .reading .media < 256 ^ 2
+  pub read-controller : d .reading .controller < 256 ^ 2
   pub passphrase : length (d .security .passphrase) ≡ 32
 
 phase-back : (p : Phase) → phaseOf (ofLe (le 1 (phaseNumber p))) ≡ p
@@ -80,19 +83,24 @@ module _ (d : Device) (h : InRange d) where
       attempts = ofLe-le 1 (d .security .attempts) (h .attempts) i;
       passphrase = pass-back i;
     };
+    reading = record {
+      spare = ofLe-le 1 (d .reading .spare) (h .read-spare) i;
+      media = ofLe-le 2 (d .reading .media) (h .read-media) i;
+      controller = ofLe-le 2 (d .reading .controller) (h .read-controller) i;
+    };
   }
 
   pub long : length (encodeOf d) ≡ 128
   unfolding encodeOf
   long =
-      length-append (firstBytes d ++ transferBytes (d .transfer) ++ encodedThresholds (d .thresholds) ++ faultBytes (d .transfer) ++ zeros 24) (pass ++ zeros 32)
+      length-append (firstBytes d ++ transferBytes (d .transfer) ++ encodedThresholds (d .thresholds) ++ faultBytes (d .transfer) ++ readingBytes (d .reading) ++ zeros 18) (pass ++ zeros 32)
       ∙ ap (λ (k : ℕ). 64 + k) (length-append pass (zeros 32) ∙ ap (λ (k : ℕ). k + 32) (h .passphrase))
 
   tail-zero : zeros? (drop 96 (encodeOf d)) ≡ true
   unfolding encodeOf zeros?
   tail-zero = ap zeros? (drop-at pass (zeros 32) 32 (h .passphrase))
 
-  middle-zero : zeros? (take 24 (drop 40 (encodeOf d))) ≡ true
+  middle-zero : zeros? (take 18 (drop 46 (encodeOf d))) ≡ true
   unfolding encodeOf zeros?
   middle-zero = refl
 
@@ -116,9 +124,13 @@ module _ (d : Device) (h : InRange d) where
   unfolding encodeOf
   unused-is = refl
 
+  free-is : (numberAt 1 41 (encodeOf d) =? 0) ≡ true
+  unfolding encodeOf
+  free-is = refl
+
   is-record : record? (encodeOf d) ≡ true
   unfolding record?
-  is-record = rw (long, phase-is, enabled-is, locked-is, frozen-is, unused-is, middle-zero, tail-zero) refl
+  is-record = rw (long, phase-is, enabled-is, locked-is, frozen-is, unused-is, free-is, middle-zero, tail-zero) refl
 
   pub back : decodeOf (encodeOf d) ≡ d
   unfolding decodeOf

@@ -14,7 +14,8 @@ pub record Fine (s : List ℕ) : Type 0 where
   pub locked : numberAt 1 2 s ≤ 1
   pub frozen : numberAt 1 3 s ≤ 1
   pub unused : numberAt 1 33 s ≡ 0
-  pub between : zeros? (take 24 (drop 40 s)) ≡ true
+  pub free : numberAt 1 41 s ≡ 0
+  pub between : zeros? (take 18 (drop 46 s)) ≡ true
   pub after : zeros? (drop 96 s) ≡ true
 
 pub fine : (s : List ℕ) → record? s ≡ true → Fine s
@@ -27,13 +28,15 @@ fine s e =
     let f = and-true _ _ (d .0) in
     let g = and-true _ _ (f .0) in
     let h = and-true _ _ (g .0) in
+    let k = and-true _ _ (h .0) in
     record {
-      long = eqb-true (length s) 128 (h .0);
-      phase = leb-true (numberAt 1 0 s) 4 (h .1);
-      enabled = leb-true (numberAt 1 1 s) 1 (g .1);
-      locked = leb-true (numberAt 1 2 s) 1 (f .1);
-      frozen = leb-true (numberAt 1 3 s) 1 (d .1);
-      unused = eqb-true (numberAt 1 33 s) 0 (c .1);
+      long = eqb-true (length s) 128 (k .0);
+      phase = leb-true (numberAt 1 0 s) 4 (k .1);
+      enabled = leb-true (numberAt 1 1 s) 1 (h .1);
+      locked = leb-true (numberAt 1 2 s) 1 (g .1);
+      frozen = leb-true (numberAt 1 3 s) 1 (f .1);
+      unused = eqb-true (numberAt 1 33 s) 0 (d .1);
+      free = eqb-true (numberAt 1 41 s) 0 (c .1);
       between = b .1;
       after = a .1;
     }

@@ -14,6 +14,8 @@ use Rattle.rules.proofs.Transfer as T
 use Rattle.rules.proofs.Transfer.Laws as T′
 use Rattle.rules.proofs.Thresholds as H
 use Rattle.rules.proofs.Thresholds.Laws as H′
+use Rattle.rules.proofs.Reading as R
+use Rattle.rules.proofs.Reading.Laws as R′
 use Rattle.rules.proofs.Security as S
 use Rattle.rules.proofs.Security.Laws as S′
 
@@ -30,6 +32,7 @@ in-range d vs is =
     let t = LL.owed T.the-type T′.the-laws (d .transfer) _ (o .0) in
     let h = LL.owed H.the-type H′.the-laws (d .thresholds) _ (o .1 .0) in
     let s = LL.owed S.the-type S′.the-laws (d .security) _ (o .1 .1 .0) in
+    let r = LL.owed R.the-type R′.the-laws (d .reading) _ (o .1 .1 .1 .0) in
     record {
       contexts = t .1 .0 .1;
       received = t .1 .1 .0 .1;
@@ -42,6 +45,9 @@ in-range d vs is =
       spare = h .1 .0 .1;
       media = h .1 .1 .0 .1;
       controller = h .1 .1 .1 .0 .1;
+      read-spare = r .0 .1;
+      read-media = r .1 .0 .1;
+      read-controller = r .1 .1 .0 .1;
       attempts = s .1 .1 .1 .0 .1;
       passphrase = passphrase-long (d .security) _ (o .1 .1 .0);
     }

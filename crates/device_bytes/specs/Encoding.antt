@@ -9,7 +9,7 @@ use Rattle.rules.specs.Bytes.{le, numberAt, zeros, zeros?}
 use Rattle.rules.specs.With.{_with-transfer_, _with-phase_}
 use Rattle.rules.specs.Record.{phaseNumber, fresh}
 use Rattle.rules.specs.declared.{Phase.Phase, Phase.the-variants.{Idle, Receiving, Verifying, Staged, Failed}, Transfer.Transfer, Thresholds.Thresholds}
-use Rattle.rules.specs.declared.{Security.Security, Device.Device}
+use Rattle.rules.specs.declared.{Security.Security, Reading.Reading, Device.Device}
 
 -- the bytes of a record
 abbrev pub encodedSize : ℕ
@@ -40,10 +40,14 @@ encodedThresholds h = le 1 (h .spare) ++ zeros 1 ++ le 2 (h .media) ++ le 2 (h .
 abbrev pub faultBytes : Transfer → List ℕ
 faultBytes t = le 1 (t .reason) ++ le 1 (t .faulty)
 
--- 40 to 63 zero; 64 to 95 passphrase; 96 to 127 zero
+-- the last reading: 40 spare; 41 zero; 42 to 43 media, 44 to 45 controller temperature
+abbrev pub readingBytes : Reading → List ℕ
+readingBytes r = le 1 (r .spare) ++ zeros 1 ++ le 2 (r .media) ++ le 2 (r .controller)
+
+-- 46 to 63 zero; 64 to 95 passphrase; 96 to 127 zero
 unfoldable pub encodeOf : Device → List ℕ
 encodeOf d =
-    firstBytes d ++ transferBytes (d .transfer) ++ encodedThresholds (d .thresholds) ++ faultBytes (d .transfer) ++ zeros 24
+    firstBytes d ++ transferBytes (d .transfer) ++ encodedThresholds (d .thresholds) ++ faultBytes (d .transfer) ++ readingBytes (d .reading) ++ zeros 18
     ++ (d .security .passphrase ++ zeros 32)
 
 -- these bytes are a record's: 128 of them, a phase that there is, each flag 0 or 1, zeros where nothing stands
@@ -55,7 +59,8 @@ record? s =
     && numberAt 1 2 s ≤? 1
     && numberAt 1 3 s ≤? 1
     && numberAt 1 33 s =? 0
-    && zeros? (take 24 (drop 40 s))
+    && numberAt 1 41 s =? 0
+    && zeros? (take 18 (drop 46 s))
     && zeros? (drop 96 s)
 
 abbrev pub phaseOf : ℕ → Phase
@@ -65,6 +70,21 @@ phaseOf n =
     else if n =? 2 then Verifying
     else if n =? 3 then Staged
     else Failed
+
+-- the security state that a record's bytes say
+abbrev pub securityIn : List ℕ → Security
+securityIn s =
+    record {
+      enabled = numberAt 1 1 s =? 1;
+      locked = numberAt 1 2 s =? 1;
+      frozen = numberAt 1 3 s =? 1;
+      attempts = numberAt 1 4 s;
+      passphrase = take 32 (drop 64 s);
+    }
+
+-- the reading that they say
+abbrev pub readingIn : List ℕ → Reading
+readingIn s = record { spare = numberAt 1 40 s; media = numberAt 2 42 s; controller = numberAt 2 44 s }
 
 -- the record that a record's bytes say
 unfoldable pub recordOf : List ℕ → Device
@@ -86,13 +106,8 @@ recordOf s =
         media = numberAt 2 34 s;
         controller = numberAt 2 36 s;
       };
-      security = record {
-        enabled = numberAt 1 1 s =? 1;
-        locked = numberAt 1 2 s =? 1;
-        frozen = numberAt 1 3 s =? 1;
-        attempts = numberAt 1 4 s;
-        passphrase = take 32 (drop 64 s);
-      };
+      security = securityIn s;
+      reading = readingIn s;
     }
 
 -- a record that is not possible: a fresh one, but failed, though no context was ever given out

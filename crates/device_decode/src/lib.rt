@@ -2,20 +2,21 @@
 ghost use mathlib.Core.Path.{_≡_};
 ghost use lib.ListN.{length, take, drop};
 ghost use Rattle.rules.specs.Bytes.{zeros?};
-ghost use Rattle.device_bytes.specs.Encoding.{encodedSize, phaseOf, record?, recordOf, impossible, decodeOf};
+ghost use Rattle.device_bytes.specs.Encoding.{encodedSize, phaseOf, record?, securityIn, readingIn, recordOf, impossible, decodeOf};
 use device_encode::ENCODED_SIZE;
 use rules::Device;
 use rules::Phase;
+use rules::Reading;
 use rules::Security;
 use rules::Thresholds;
 use rules::Transfer;
 
-// Bytes 40 to 63 are zero, by three numbers and not byte by byte.
+// Bytes 46 to 63 are zero, by three numbers and not byte by byte.
 fn zero_between(s: &[u8]) -> bool
     requires { ⌜ length (now s) ≡ encodedSize ⌝ }
-    ensures { λ r. ⌜ r ≡ zeros? (take 24 (drop 40 (now (s .entry)))) ⌝ }
+    ensures { λ r. ⌜ r ≡ zeros? (take 18 (drop 46 (now (s .entry)))) ⌝ }
 {
-    (bytes_numbers::long(s, 40) == 0)
+    (bytes_numbers::half(s, 46) == 0)
         & (bytes_numbers::long(s, 48) == 0)
         & (bytes_numbers::long(s, 56) == 0)
 }
@@ -42,9 +43,17 @@ fn is_record(s: &[u8]) -> bool
     let locked = bytes_numbers::byte(s, 2);
     let frozen = bytes_numbers::byte(s, 3);
     let unused = bytes_numbers::byte(s, 33);
+    let free = bytes_numbers::byte(s, 41);
     let between = zero_between(s);
     let after = zero_after(s);
-    (phase <= 4) & (enabled <= 1) & (locked <= 1) & (frozen <= 1) & (unused == 0) & between & after
+    (phase <= 4)
+        & (enabled <= 1)
+        & (locked <= 1)
+        & (frozen <= 1)
+        & (unused == 0)
+        & (free == 0)
+        & between
+        & after
 }
 
 fn phase_of(n: u8) -> Phase
@@ -69,6 +78,35 @@ fn phase_of(n: u8) -> Phase
     Phase::Failed
 }
 
+fn to_security(s: &[u8]) -> Security
+    requires { ⌜ length (now s) ≡ encodedSize ⌝ }
+    ensures { λ r. ⌜ r ≡ securityIn (now (s .entry)) ⌝ }
+{
+    let mut passphrase = [0u8; 32];
+    bytes_base::copy(&mut passphrase, &s[64..96]);
+    let enabled = bytes_numbers::byte(s, 1) == 1;
+    let locked = bytes_numbers::byte(s, 2) == 1;
+    let frozen = bytes_numbers::byte(s, 3) == 1;
+    Security {
+        enabled,
+        locked,
+        frozen,
+        attempts: bytes_numbers::byte(s, 4),
+        passphrase,
+    }
+}
+
+fn to_reading(s: &[u8]) -> Reading
+    requires { ⌜ length (now s) ≡ encodedSize ⌝ }
+    ensures { λ r. ⌜ r ≡ readingIn (now (s .entry)) ⌝ }
+{
+    Reading {
+        spare: bytes_numbers::byte(s, 40),
+        media: bytes_numbers::half(s, 42),
+        controller: bytes_numbers::half(s, 44),
+    }
+}
+
 fn to_record(s: &[u8]) -> Device
     requires { ⌜ length (now s) ≡ encodedSize ⌝ }
     ensures { λ r. ⌜ r ≡ recordOf (now (s .entry)) ⌝ }
@@ -90,22 +128,13 @@ fn to_record(s: &[u8]) -> Device
         media: bytes_numbers::half(s, 34),
         controller: bytes_numbers::half(s, 36),
     };
-    let mut passphrase = [0u8; 32];
-    bytes_base::copy(&mut passphrase, &s[64..96]);
-    let enabled = bytes_numbers::byte(s, 1) == 1;
-    let locked = bytes_numbers::byte(s, 2) == 1;
-    let frozen = bytes_numbers::byte(s, 3) == 1;
-    let security = Security {
-        enabled,
-        locked,
-        frozen,
-        attempts: bytes_numbers::byte(s, 4),
-        passphrase,
-    };
+    let security = to_security(s);
+    let reading = to_reading(s);
     Device {
         transfer,
         thresholds,
         security,
+        reading,
     }
 }
 

@@ -4,8 +4,9 @@ ghost use mathlib.Core.Path.{_≡_};
 ghost use mathlib.Core.List.{_++_};
 ghost use lib.ListN.{length};
 ghost use Rattle.rules.specs.Bytes.{splice, zeros};
-ghost use Rattle.device_bytes.specs.Encoding.{encodedSize, stateBytes, firstBytes, transferBytes, encodedThresholds, faultBytes, encodeOf};
+ghost use Rattle.device_bytes.specs.Encoding.{encodedSize, stateBytes, firstBytes, transferBytes, encodedThresholds, faultBytes, readingBytes, encodeOf};
 use rules::Device;
+use rules::Reading;
 use rules::Security;
 use rules::Thresholds;
 use rules::Transfer;
@@ -63,6 +64,16 @@ fn put_fault(t: Transfer, out: &mut [u8])
     bytes_base::put_at(out, 39, 1, t.faulty as u64);
 }
 
+fn put_reading(r: Reading, out: &mut [u8])
+    requires { ⌜ length (now out) ≡ encodedSize ⌝ }
+    ensures { λ x. ⌜ now (out .exit) ≡ splice 40 (readingBytes r) (now (out .entry)) ⌝ }
+{
+    bytes_base::put_at(out, 40, 1, r.spare as u64);
+    bytes_base::put_at(out, 41, 1, 0);
+    bytes_base::put_at(out, 42, 2, r.media as u64);
+    bytes_base::put_at(out, 44, 2, r.controller as u64);
+}
+
 fn put_passphrase(s: Security, out: &mut [u8])
     requires { ⌜ length (now out) ≡ encodedSize ⌝ }
     ensures { λ r. ⌜ now (out .exit) ≡ splice 64 (s .passphrase ++ zeros 32) (now (out .entry)) ⌝ }
@@ -80,7 +91,8 @@ pub fn put(d: Device, out: &mut [u8])
     put_transfer(d.transfer, out);
     put_thresholds(d.thresholds, out);
     put_fault(d.transfer, out);
-    bytes_base::put_at(out, 40, 24, 0);
+    put_reading(d.reading, out);
+    bytes_base::put_at(out, 46, 18, 0);
     put_passphrase(d.security, out);
 }
 

@@ -1,12 +1,13 @@
-// Document 01, "The device record": whether a record is possible, each of its three parts by itself.
+// Document 01, "The device record": whether a record is possible, each of its four parts by itself.
 ghost use mathlib.Core.Path.{_≡_};
 ghost use lib.ListN.{length};
 ghost use Rattle.rules.specs.Bytes.{zeros?};
 ghost use Rattle.rules.specs.Adopt.{possibleBefore};
-ghost use Rattle.rules.specs.Record.{possible, possibleNumbers, possibleFault, possibleTransfer, possibleSecurity, possibleThresholds};
+ghost use Rattle.rules.specs.Record.{possible, possibleNumbers, possibleFault, possibleTransfer, possibleSecurity, possibleThresholds, possibleReading};
 use rules::AREA_SIZE;
 use rules::ATTEMPT_LIMIT;
 use rules::Device;
+use rules::Reading;
 use rules::Security;
 use rules::Thresholds;
 use rules::Transfer;
@@ -66,12 +67,19 @@ fn possible_thresholds(h: Thresholds) -> bool
     (h.enable < 8) & (h.spare <= 100)
 }
 
+fn possible_reading(h: Reading) -> bool
+    ensures { λ r. ⌜ r ≡ possibleReading h ⌝ }
+{
+    h.spare <= 100
+}
+
 pub fn possible(d: Device) -> bool
     ensures { λ r. ⌜ r ≡ possible d ⌝ }
 {
     possible_transfer(d.transfer)
         & possible_security(d.security)
         & possible_thresholds(d.thresholds)
+        & possible_reading(d.reading)
 }
 
 // Whether a record was possible before faults were kept.
@@ -83,4 +91,5 @@ pub fn possible_before(d: Device) -> bool
     (possible_numbers(t) & no_fault)
         & possible_security(d.security)
         & possible_thresholds(d.thresholds)
+        & possible_reading(d.reading)
 }

@@ -7,6 +7,7 @@ ghost use Rattle.rules.specs.Refusals.{verdict, eventChecks, recordLeft};
 use rules::AREA_SIZE;
 use rules::Device;
 use rules::Phase;
+use rules::Reading;
 use rules::Refusal;
 use rules::Security;
 use rules::Thresholds;
@@ -39,6 +40,11 @@ pub fn fresh() -> Device
             frozen: false,
             attempts: 0,
             passphrase: [0u8; 32],
+        },
+        reading: Reading {
+            spare: 0,
+            media: 0,
+            controller: 0,
         },
     }
 }

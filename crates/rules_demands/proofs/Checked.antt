@@ -67,12 +67,31 @@ module _ (test : ℕ → Bool) (request : List ℕ) where
   unfolding rowOf
   carries-tested revision index context =
       looked-at (λ (i : ℕ) (r : Row). (early i && late i) ≡ true → Carries (callOf (r .function) revision request) request context → test context ≡ true)
-      index table
-      (no, (no, (no, (no, (no,
-      (λ e k. ap test (k .1) ∙ implied (4 ≤? length request) (test (numberAt 4 0 request)) (and-true (early 14) (late 14) e .0) (le-leb 4 (length request) (k .0)),
-      (λ e k. ap test (k .1) ∙ implied (8 ≤? length request) (test (numberAt 4 4 request)) (and-true (early 15) (late 15) e .1) (le-leb 8 (length request) (k .0)),
-      (λ e k. ap test (k .1) ∙ implied (4 ≤? length request) (test (numberAt 4 0 request)) (and-true (early 16) (late 16) e .0) (le-leb 4 (length request) (k .0)),
-      (no, (no, (no, (no, (no, (no, tt))))))))))))))
+      index table (
+        no,
+        (
+          no,
+          (
+            no,
+            (
+              no,
+              (
+                no,
+                (
+                  λ e k. ap test (k .1) ∙ implied (4 ≤? length request) (test (numberAt 4 0 request)) (and-true (early 14) (late 14) e .0) (le-leb 4 (length request) (k .0)),
+                  (
+                    λ e k. ap test (k .1) ∙ implied (8 ≤? length request) (test (numberAt 4 4 request)) (and-true (early 15) (late 15) e .1) (le-leb 8 (length request) (k .0)),
+                    (
+                      λ e k. ap test (k .1) ∙ implied (4 ≤? length request) (test (numberAt 4 0 request)) (and-true (early 16) (late 16) e .0) (le-leb 4 (length request) (k .0)),
+                      (no, (no, (no, (no, (no, (no, tt)))))),
+                    ),
+                  ),
+                ),
+              ),
+            ),
+          ),
+        ),
+      )
       (λ lacks. no)
     where
       no : {t : Bool} → t ≡ true → ⊥ → test context ≡ true

@@ -9,7 +9,7 @@ use Rattle.device_decode.proofs.no_record.Tie as tie
 
 returns : tie.Need-returns
 unfolding impossible
-returns c = ap (λ (d : Device). d with-transfer (d .transfer with-phase Failed)) (c .before .before .fresh .ensures)
+returns c = ap (λ (d : Device). d with-transfer (d .transfer with-phase Failed)) (c .before .before .before .fresh .ensures)
 
 -- by search: fresh-requires
 pub no-record-spec : {M : Type 1} → statement M

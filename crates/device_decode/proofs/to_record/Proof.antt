@@ -1,18 +1,14 @@
 -- `device_decode::to_record` meets its contract. Each field is the number read at its place (proofs/Decoded.antt).
 -- Assumes nothing.
-use mathlib.Core.Path.{_∙_}
-use lib.ListN.{take, drop}
-use Rattle.bytes_base.proofs.Parts.{copy-whole}
 use Rattle.device_decode.proofs.{Decoded.read, to_record.Statement.statement}
 use borrow.Author.Needs.{needs}
 use Rattle.device_decode.proofs.to_record.Tie as tie
 
--- the numbers, in the order in which they are read: of the security state, of the thresholds, of the transfer
+-- the numbers, in the order in which they are read: of the thresholds, of the transfer; and the two parts
 returns : tie.Need-returns
 returns c =
-    let security = c .before .before .before in
-    let copied = security .before .before in
-    let thresholds = copied .before .before .before .before in
+    let last = c .before .before in
+    let thresholds = last .before in
     let transfer = thresholds .before .before .before .before in
     let versions = transfer .before .before in
     let first = versions .before .before .before .before .before in
@@ -20,11 +16,10 @@ returns c =
     read s (first .byte .ensures) (versions .before .before .before .before .phase-of .ensures)
     (versions .before .before .before .word .ensures) (versions .before .before .word2 .ensures) (versions .before .byte2 .ensures)
     (versions .long .ensures) (transfer .before .long2 .ensures) (transfer .byte3 .ensures) (thresholds .before .before .before .byte4 .ensures)
-    (thresholds .before .before .half .ensures) (thresholds .before .byte5 .ensures) (thresholds .half2 .ensures) (copied .before .before .before .half3 .ensures)
-    (copied .copy .ensures ∙ copy-whole (take 32 (drop 64 s)) _ (search needs))
-    (security .byte6 .ensures) (c .before .before .byte7 .ensures) (c .before .byte8 .ensures) (c .byte9 .ensures)
+    (thresholds .before .before .half .ensures) (thresholds .before .byte5 .ensures) (thresholds .half2 .ensures) (last .half3 .ensures)
+    (c .before .to-security .ensures) (c .to-reading .ensures)
 
--- by search: the place of each number, the passphrase's part
+-- by search: the place of each number
 pub to-record-spec : {M : Type 1} → statement M
 to-record-spec =
     tie.close
@@ -39,13 +34,6 @@ to-record-spec =
     (λ c κs. search needs)
     (λ c κs. search needs)
     (λ c κs. search needs)
-    (λ c κs. search needs)
-    (λ c κs. search needs)
-    (λ c κs. search needs)
-    (λ c. search needs)
-    (λ c. search needs)
-    (λ c. search needs)
-    (λ c. search needs)
     (λ c κs. search needs)
     (λ c κs. search needs)
     (λ c κs. search needs)

@@ -8,9 +8,9 @@ use Rattle.device_decode.proofs.zero_between.Tie as tie
 returns : tie.Need-returns
 returns c =
     let s = c .before .before .before .before .args .s .now in
-    zero-more 40 16 8 s (zero-more 40 8 8 s (zero-first 40 8 s (c .before .before .long .ensures)) (c .before .long2 .ensures)) (c .long3 .ensures)
+    zero-more 46 10 8 s (zero-more 46 2 8 s (zero-first 46 2 s (c .before .before .half .ensures)) (c .before .long .ensures)) (c .long2 .ensures)
 
--- by search: long-requires, long-requires-2, long-requires-3
+-- by search: half-requires, long-requires, long-requires-2
 pub zero-between-spec : {M : Type 1} → statement M
 zero-between-spec =
     tie.close (tie.spec (λ c κs. search needs) (λ c κs. search needs) (λ c κs. search needs) returns)

@@ -8,7 +8,7 @@ add-t6 : tie.Need-add-t6
 add-t6 c = search needs
 
 returns : tie.Need-returns
-returns c = simp (c .before .before .before .before .if1 .taken)
+returns c = simp (c .before .before .before .before .before .if1 .taken)
 
 returns-2 : tie.Need-returns-2
 returns-2 c = simp (c .if1 .left)
