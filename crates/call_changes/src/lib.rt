@@ -47,6 +47,7 @@ pub fn change(
 {
     match function {
         Function::Mask => d,
+        Function::GetHealth => d,
         Function::GetThreshold => d,
         Function::GetFwInfo => d,
         Function::Start => with_transfer(d, transfer_changes::start(d.transfer)),

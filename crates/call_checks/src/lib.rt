@@ -78,6 +78,7 @@ fn judge_function(d: Device, function: Function, revision: u64, request: &[u8]) 
 {
     match function {
         Function::Mask => Verdict::Accepted,
+        Function::GetHealth => Verdict::Accepted,
         Function::GetThreshold => Verdict::Accepted,
         Function::GetFwInfo => Verdict::Accepted,
         Function::Start => transfer_start_checks::judge_start(d.transfer),

@@ -44,6 +44,7 @@ pub fn look_up(index: u64) -> Row
 {
     match index {
         0 => row_and_more(Function::Mask, 1, 0, 4),
+        1 => row(Function::GetHealth, 1, 0, 132),
         2 => row(Function::GetThreshold, 1, 0, 12),
         12 => row(Function::GetFwInfo, 2, 0, 44),
         13 => row(Function::Start, 2, 0, 8),
@@ -56,7 +57,7 @@ pub fn look_up(index: u64) -> Row
         21 => row(Function::Disable, 2, 32, 4),
         22 => row(Function::Unlock, 2, 32, 4),
         23 => row(Function::Freeze, 2, 0, 4),
-        1 | 3..=11 | 18 => no_row(),
+        3..=11 | 18 => no_row(),
         _ => no_row(),
     }
 }
@@ -66,8 +67,8 @@ pub fn mask(revision: u64) -> u32
     ensures { λ r. ⌜ r ≡ maskOf revision ⌝ }
 {
     match revision {
-        1 => (1u32 << 0) | (1u32 << 2),
-        2 => (1u32 << 0) | (1u32 << 2) | (63u32 << 12) | (31u32 << 19),
+        1 => (1u32 << 0) | (1u32 << 1) | (1u32 << 2),
+        2 => (1u32 << 0) | (1u32 << 1) | (1u32 << 2) | (63u32 << 12) | (31u32 << 19),
         _ => 0,
     }
 }

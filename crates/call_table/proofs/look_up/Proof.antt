@@ -3,11 +3,11 @@ use mathlib.Core.Logic.{⊎-elim}
 use Rattle.call_table.proofs.{Laws.{row-at, no-row-at}, look_up.Statement.statement}
 use Rattle.call_table.proofs.look_up.Tie as tie
 
--- the ranges that the table skips: 1 and 18 by computation, 3 to 11 as all past it
-skipped : tie.Need-returns-15
+-- what the table skips: 18 by computation, 3 to 11 as all past it
+skipped : tie.Need-returns-16
 skipped c =
     ⊎-elim
-    (λ one. ⊎-elim (λ at. row-at at (c .no-row2 .ensures)) (λ at. row-at at (c .no-row2 .ensures)) (one .keys14))
+    (λ one. row-at (one .keys15) (c .no-row2 .ensures))
     (λ past. no-row-at _ (past .0 .rest .0) (c .no-row2 .ensures))
     (c .before .match .came)
 
@@ -31,12 +31,13 @@ look-up-spec =
     (λ c κs. tt)
     (λ c κs. tt)
     (λ c κs. tt)
+    (λ c κs. tt)
     (λ c. row-at (c .before .match .keys1) (c .row-and-more .ensures))
     (λ c. row-at (c .before .match .keys2) (c .row .ensures))
     (λ c. row-at (c .before .match .keys3) (c .row2 .ensures))
     (λ c. row-at (c .before .match .keys4) (c .row3 .ensures))
-    (λ c. row-at (c .before .match .keys5) (c .row-and-more2 .ensures))
-    (λ c. row-at (c .before .match .keys6) (c .row4 .ensures))
+    (λ c. row-at (c .before .match .keys5) (c .row4 .ensures))
+    (λ c. row-at (c .before .match .keys6) (c .row-and-more2 .ensures))
     (λ c. row-at (c .before .match .keys7) (c .row5 .ensures))
     (λ c. row-at (c .before .match .keys8) (c .row6 .ensures))
     (λ c. row-at (c .before .match .keys9) (c .row7 .ensures))
@@ -44,5 +45,6 @@ look-up-spec =
     (λ c. row-at (c .before .match .keys11) (c .row9 .ensures))
     (λ c. row-at (c .before .match .keys12) (c .row10 .ensures))
     (λ c. row-at (c .before .match .keys13) (c .row11 .ensures))
+    (λ c. row-at (c .before .match .keys14) (c .row12 .ensures))
     (λ c. no-row-at _ (c .before .before .match .rest .0) (c .no-row .ensures))
     skipped)
