@@ -1,10 +1,10 @@
--- A verdict that is known settles the definition's result: what a call, a tick and a power cycle come to.
+-- A verdict that is known settles the definition's result: what a call, a tick, a power cycle and a reading come to.
 -- Assumes nothing.
 use mathlib.Core.{Path.{_≡_, refl, sym, _∙_, ap, subst}, Bool.{Bool, true, false}, List.{List, [], _∷_, _++_}}
 use Prim.Native.Nat.{ℕ, _≤_, _-_}
 use lib.{Dec.lit≤, ListN.length}
 use Rattle.rules.{specs.Tests.{if_then_else_, _=?_}, specs.Bytes.zeros, specs.Numbers.answerRoom, specs.Record.{Module, moduleOf, _with-device_}}
-use Rattle.rules.{specs.Refusals.{verdict, eventChecks, statusBytes, statusLength, answerAfter, recordLeft}, specs.Table.{rowOf, servedCheck, lengthCheck}}
+use Rattle.rules.{specs.Refusals.{Check, verdict, statusBytes, statusLength, answerAfter, recordLeft}, specs.Table.{rowOf, servedCheck, lengthCheck}}
 use Rattle.rules.specs.Module.{Result, callOf, callIn, checks, acceptedAnswer, change, gateChecks, callChecks, outcome, happened, callResult}
 use Rattle.rules.{specs.declared.Refusal.Refusal, specs.declared.Refusal.the-variants.{R, Status}, specs.declared.Verdict.Verdict}
 use Rattle.rules.{specs.declared.Verdict.the-variants.{Accepted, Refused}, specs.declared.Row.Row, specs.declared.Device.Device, proofs.page.Passed.both-accepted}
@@ -77,32 +77,32 @@ module _ (m : Module) (revision index : ℕ) (request answer : List ℕ) (row : 
       ap (λ (r : Row). verdict (checks m (callOf (r .function) revision request))) looked-up
       ∙ both-accepted (gateChecks m revision index request answer) (checks m (callIn revision index request)) e .1
 
-  -- an answer with a status has 4 to 44 bytes
-  pub status-fits : (status : ℕ) → (4 ≤ statusLength status (row .answer)) × (statusLength status (row .answer) ≤ 44)
-  status-fits status = go (status =? 1) (subst (λ (r : Row). (4 ≤ r .answer) × (r .answer ≤ 44)) (sym looked-up) (answers index))
+  -- an answer with a status has 4 to 132 bytes
+  pub status-fits : (status : ℕ) → (4 ≤ statusLength status (row .answer)) × (statusLength status (row .answer) ≤ 132)
+  status-fits status = go (status =? 1) (subst (λ (r : Row). (4 ≤ r .answer) × (r .answer ≤ 132)) (sym looked-up) (answers index))
     where
-      go : (unserved : Bool) → (4 ≤ row .answer) × (row .answer ≤ 44) → (4 ≤ (if unserved then 4 else row .answer)) × ((if unserved then 4 else row .answer) ≤ 44)
+      go : (unserved : Bool) → (4 ≤ row .answer) × (row .answer ≤ 132) → (4 ≤ (if unserved then 4 else row .answer)) × ((if unserved then 4 else row .answer) ≤ 132)
       go true h = (lit≤ tt, lit≤ tt)
       go false h = h
 
--- a tick or a power cycle, which leaves the area
-module _ (m : Module) (changed : Device) where
+-- a tick, a power cycle or a reading, judged by these rows, which leaves the area
+module _ (m : Module) (changed : Device) (rows : List Check) where
   abbrev came : Result
-  came = happened (verdict (eventChecks m)) (m with-device changed) m
+  came = happened (verdict rows) (m with-device changed) m
 
   happens : {o : Outcome} {v : Verdict} {device : Device} (w : Verdict)
-      → v ≡ verdict (eventChecks m) → v ≡ w → o ≡ given device v 0
+      → v ≡ verdict rows → v ≡ w → o ≡ given device v 0
       → Promised (happened w (m with-device changed) m) (given device w 0) (m .area) []
       → Promised came o (m .area) []
   happens {o} {v} {device} w j e k p =
       subst (λ (x : Outcome). Promised came x (m .area) []) (sym (k ∙ ap (λ (x : Verdict). given device x 0) e))
       (subst (λ (x : Verdict). Promised (happened x (m with-device changed) m) (given device w 0) (m .area) []) (sym e ∙ j) p)
 
-  pub as-changed : {o : Outcome} {v : Verdict} {device : Device} → v ≡ verdict (eventChecks m) → v ≡ Accepted → o ≡ given device v 0 → device ≡ changed
+  pub as-changed : {o : Outcome} {v : Verdict} {device : Device} → v ≡ verdict rows → v ≡ Accepted → o ≡ given device v 0 → device ≡ changed
       → Promised came o (m .area) []
   as-changed j e k f = happens Accepted j e k (record { reply-is = refl; device-is = f; area-is = refl; answer-is = refl })
 
-  pub as-left : {o : Outcome} {v : Verdict} (refusal : Refusal) → v ≡ verdict (eventChecks m) → v ≡ Refused refusal → o ≡ given (m .device) v 0
+  pub as-left : {o : Outcome} {v : Verdict} (refusal : Refusal) → v ≡ verdict rows → v ≡ Refused refusal → o ≡ given (m .device) v 0
       → Promised came o (m .area) []
   as-left refusal j e k =
       happens (Refused refusal) j e k (record { reply-is = refl; device-is = refl; area-is = refl; answer-is = refl })

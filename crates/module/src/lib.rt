@@ -1,10 +1,13 @@
-// The module: one call, tick or power cycle on a device record and a lent staging area. These are the entry points; none asks anything of its caller.
+// The module: one call, tick, power cycle or health reading on a device record and a lent staging area. These are the entry points; none asks anything of its caller.
 ghost use mathlib.Core.Path.{_≡_};
-ghost use mathlib.Core.List.{[]};
+ghost use mathlib.Core.List.{[], _∷_};
 ghost use Rattle.rules.specs.Record.{fresh, moduleOf};
-ghost use Rattle.rules.specs.Module.{callResult, tickResult, powerResult};
+ghost use Rattle.rules.specs.Refusals.{verdict};
+ghost use Rattle.rules.specs.Health.{R4Check};
+ghost use Rattle.rules.specs.Module.{callResult, tickResult, powerResult, readingChecks, readingResult};
 ghost use Rattle.module.specs.Promise.{Promised};
 use rules::Device;
+use rules::Reading;
 use rules::Refusal;
 use rules::Reply;
 use rules::Verdict;
@@ -89,6 +92,42 @@ pub fn power(d: Device, area: &[u8]) -> Outcome
                 ..d
             };
             result(started, verdict, 0)
+        }
+        Verdict::Refused(_) => result(d, verdict, 0),
+    }
+}
+
+// R4.
+fn judge_new(new: Reading) -> Verdict
+    ensures { λ r. ⌜ r ≡ verdict (R4Check new ∷ []) ⌝ }
+{
+    let over = 100 < new.spare;
+    if over {
+        return Verdict::Refused(Refusal::R { number: 4 });
+    }
+    Verdict::Accepted
+}
+
+// R2, R3, R4.
+fn judge_reading(d: Device, area: &[u8], new: Reading) -> Verdict
+    ensures { λ r. ⌜ r ≡ verdict (readingChecks (moduleOf d (now (area .entry))) new) ⌝ }
+{
+    let event = device_record::judge_event(d, area);
+    match event {
+        Verdict::Refused(refusal) => Verdict::Refused(refusal),
+        Verdict::Accepted => judge_new(new),
+    }
+}
+
+// The record keeps the new reading.
+pub fn reading(d: Device, area: &[u8], new: Reading) -> Outcome
+    ensures { λ r. ⌜ Promised (readingResult (moduleOf d (now (area .entry))) new) r (now (area .entry)) [] ⌝ }
+{
+    let verdict = judge_reading(d, area, new);
+    match verdict {
+        Verdict::Accepted => {
+            let kept = Device { reading: new, ..d };
+            result(kept, verdict, 0)
         }
         Verdict::Refused(_) => result(d, verdict, 0),
     }

@@ -2,7 +2,7 @@
 -- Assumes nothing.
 use mathlib.Core.{Path.{sym, _∙_, ap}, List.[]}
 use native.Mathlib.Omega.{arith}
-use Rattle.rules.{specs.With._with-transfer_, specs.Record.moduleOf, specs.Module.{ticked, tickResult}, specs.declared.Transfer.Transfer}
+use Rattle.rules.{specs.With._with-transfer_, specs.Record.moduleOf, specs.Refusals.eventChecks, specs.Module.{ticked, tickResult}, specs.declared.Transfer.Transfer}
 use Rattle.rules.proofs.page.Past.{event-passed, not-by-event, received-most}
 use Rattle.module.proofs.{Outcomes.{as-changed, as-left}, tick.Statement.statement}
 use borrow.Author.Needs.{needs}
@@ -23,7 +23,7 @@ unfolding tickResult
 returns c =
     let a = c .before .before .before .before .before .before .before .before .args in
     let m = moduleOf (a .d) (a .area .now) in
-    as-changed m (ticked m .device) (c .before .before .before .before .before .before .judge-event .ensures) (c .before .before .before .before .enum-told .given .1) (c .result .ensures)
+    as-changed m (ticked m .device) (eventChecks m) (c .before .before .before .before .before .before .judge-event .ensures) (c .before .before .before .before .enum-told .given .1) (c .result .ensures)
     (ap (λ (t : Transfer). a .d with-transfer t) (c .before .before .before .tick .ensures))
 
 returns-2 : tie.Need-returns-2
@@ -31,7 +31,7 @@ unfolding tickResult
 returns-2 c =
     let a = c .before .before .before .before .before .args in
     let m = moduleOf (a .d) (a .area .now) in
-    as-left m (ticked m .device) _ (c .before .before .before .judge-event .ensures) (c .before .enum-told2 .given .1) (c .result2 .ensures)
+    as-left m (ticked m .device) (eventChecks m) _ (c .before .before .before .judge-event .ensures) (c .before .enum-told2 .given .1) (c .result2 .ensures)
 
 -- by search: judge-event-requires, result-requires, enum-told-2, result-requires-2
 pub tick-spec : {M : Type 1} → statement M
