@@ -1,10 +1,10 @@
 -- A reply of the module can be kept, since the bytes are 128 wherever no R number was given; and what was kept is what the C function promises.
 -- Assumes nothing.
-use mathlib.Core.{Path.{_≡_, refl, sym, _∙_, ap, subst}, Bool.{Bool, true, false}, List.{List, [], _∷_}}
+use mathlib.Core.{Path.{_≡_, refl, sym, _∙_, ap, subst}, Bool.{Bool, true, false}, List.{List, _∷_, _++_}}
 use Prim.Native.Nat.{ℕ, _≤_}
 use native.Mathlib.Omega.{arith}
 use lib.{Dec.lit≤, IntN.ℤ, ListN.length}
-use Rattle.rules.{specs.Tests.{if_then_else_, _=?_}, specs.Numbers.answerRoom, specs.Record.{Module, moduleOf}, specs.Refusals.{verdict, eventChecks, statusLength}}
+use Rattle.rules.{specs.Tests.{if_then_else_, _=?_}, specs.Numbers.answerRoom, specs.Record.{Module, moduleOf}, specs.Refusals.{Check, verdict, eventChecks, statusLength}}
 use Rattle.rules.{specs.Table.{rowOf, servedCheck, lengthCheck}, specs.Module.{Result, callIn, checks, callChecks, outcome, happened, callResult}}
 use Rattle.rules.{specs.declared.Refusal.the-variants.{R, Status}, specs.declared.Verdict.Verdict, specs.declared.Verdict.the-variants.{Accepted, Refused}}
 use Rattle.rules.{specs.declared.Reply.Reply, specs.declared.Device.Device, proofs.page.Past.{NoR, not-by-event, event-passed, call-passed}, proofs.page.Fitting.answers}
@@ -14,7 +14,7 @@ use Rattle.abi_keep.specs.Kept.{told, keptBy, kept, Keepable}
 use Rattle.abi.specs.Abi.{Called, Happened}
 
 -- an answer with a status is no longer than the function's
-status-short : (status n : ℕ) → n ≤ 44 → statusLength status n ≤ answerRoom
+status-short : (status n : ℕ) → n ≤ 132 → statusLength status n ≤ answerRoom
 status-short status n h = go (status =? 1)
   where
     go : (unserved : Bool) → (if unserved then 4 else n) ≤ answerRoom
@@ -42,20 +42,20 @@ module _ (bytes area : List ℕ) (revision index : ℕ) (request answer : List �
   unfolding callResult
   call-keepable p = subst (λ (r : Reply). Keepable r bytes) (sym (p .reply-is)) (replied _ refl)
 
--- a tick's and a power cycle's too
-module _ (bytes area : List ℕ) (changed : Module) where
+-- a tick's, a power cycle's and a reading's too, whose own rows come after those of every event
+module _ (bytes area : List ℕ) (changed : Module) (later : List Check) where
   abbrev was : Module
   was = moduleOf (decodeOf bytes) area
 
-  went : (v : Verdict) → verdict (eventChecks was) ≡ v → NoR v → length bytes ≡ encodedSize
-  went v e n = possible-whole bytes (event-passed was [] v e (not-by-event was v n) .0 .sound)
+  went : (v : Verdict) → verdict (eventChecks was ++ later) ≡ v → NoR v → length bytes ≡ encodedSize
+  went v e n = possible-whole bytes (event-passed was later v e (not-by-event was v n) .0 .sound)
 
-  happening : (v : Verdict) → verdict (eventChecks was) ≡ v → Keepable (happened v changed was .reply) bytes
+  happening : (v : Verdict) → verdict (eventChecks was ++ later) ≡ v → Keepable (happened v changed was .reply) bytes
   happening Accepted e = record { sized = went Accepted e tt; short = lit≤ tt }
   happening (Refused (R number)) e = record { sized = tt; short = lit≤ tt }
   happening (Refused (Status status ext)) e = record { sized = went (Refused (Status status ext)) e tt; short = lit≤ tt }
 
-  pub event-keepable : {o : Outcome} {area′ answer′ : List ℕ} → Promised (happened (verdict (eventChecks was)) changed was) o area′ answer′ → Keepable (o .reply) bytes
+  pub event-keepable : {o : Outcome} {area′ answer′ : List ℕ} → Promised (happened (verdict (eventChecks was ++ later)) changed was) o area′ answer′ → Keepable (o .reply) bytes
   event-keepable p = subst (λ (r : Reply). Keepable r bytes) (sym (p .reply-is)) (happening _ refl)
 
 -- the record that was decoded is the one whose result is promised

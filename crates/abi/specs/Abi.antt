@@ -1,5 +1,5 @@
 -- What the C functions promise: the number that they give and every buffer at their end, by equations. The record is bytes (crate device_bytes); what a call,
--- a tick and a power cycle come to is document 01's (crate rules); what of it is told and kept is abi_keep's.
+-- a tick, a power cycle and a reading come to is document 01's (crate rules); what of it is told and kept is abi_keep's.
 -- Assumes nothing.
 use mathlib.Core.{Path._≡_, List.List}
 use Prim.Native.Nat.{ℕ}
@@ -19,7 +19,7 @@ pub record Called (result : Result) (bytes : List ℕ) (number : ℤ) (bytes′ 
   pub area-is : area′ ≡ result .after .area
   pub answer-is : answer′ ≡ result .answer
 
--- a tick or a power cycle, whose area is only read
+-- a tick, a power cycle or a reading, whose area is only read
 pub record Happened (result : Result) (bytes : List ℕ) (number : ℤ) (bytes′ : List ℕ) : Type 0 where
   pub number-is : number ≡ told (result .reply)
   pub record-is : bytes′ ≡ kept result bytes

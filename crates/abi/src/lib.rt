@@ -2,12 +2,14 @@
 // include/module.h is its header.
 ghost use mathlib.Core.Path.{_≡_};
 ghost use Rattle.rules.specs.Record.{moduleOf};
-ghost use Rattle.rules.specs.Module.{callResult, tickResult, powerResult};
+ghost use Rattle.rules.specs.Module.{callResult, tickResult, powerResult, readingResult};
+ghost use Rattle.rules.specs.Health.{newReading};
 ghost use Rattle.device_bytes.specs.Encoding.{decodeOf};
 ghost use Rattle.device_slots.specs.Slots.{freshNumber, freshSlots, writeNumber, writeSlots, selectNumber, selectSlots, readNumber, readRecord};
 ghost use Rattle.abi_images.specs.Told.{makeNumber, makeOutput, readNumber as readBackNumber, readOutput};
 ghost use Rattle.abi.specs.Abi.{Called, Happened, Made, Adopted};
 use device_encode::ENCODED_SIZE;
+use rules::Reading;
 
 #[no_mangle]
 pub extern "C" fn module_fresh(bytes: &mut [u8]) -> i32
@@ -50,6 +52,26 @@ pub extern "C" fn module_power(bytes: &mut [u8], area: &[u8]) -> i32
 {
     let d = device_decode::decode(bytes);
     let outcome = module::power(d, area);
+    abi_keep::keep(outcome.reply, outcome.device, bytes)
+}
+
+#[no_mangle]
+pub extern "C" fn module_reading(
+    bytes: &mut [u8],
+    area: &[u8],
+    spare: u8,
+    media: u16,
+    controller: u16,
+) -> i32
+    ensures { λ r. ⌜ Happened (readingResult (moduleOf (decodeOf (now (bytes .entry))) (now (area .entry))) (newReading spare media controller)) (now (bytes .entry)) r (now (bytes .exit)) ⌝ }
+{
+    let d = device_decode::decode(bytes);
+    let new = Reading {
+        spare,
+        media,
+        controller,
+    };
+    let outcome = module::reading(d, area, new);
     abi_keep::keep(outcome.reply, outcome.device, bytes)
 }
 

@@ -11,7 +11,7 @@ use program_logs::Turn;
 use rules::AREA_SIZE;
 use rules::Device;
 
-// The text of a part, 120 lines of at most 160 bytes, and that of the end state, two digits for each byte of the area and some short lines: in whole pages.
+// The text of a part, 120 lines of at most 296 bytes, and that of the end state, two digits for each byte of the area and some short lines: in whole pages.
 const TEXT: usize = 36864;
 
 // A log begins with a fresh module and an area of zeros, and has no heading.

@@ -7,8 +7,8 @@ ghost use Rattle.rules.specs.Numbers.{answerRoom};
 
 // The line of a call: a number of at most 20 digits, a word, the answer's bytes, of which there are `size`, and the line's end.
 pub fn put_answer(out: &mut [u8], at: usize, number: u64, answer: &[u8], size: usize) -> usize
-    requires { ⌜ (at + 160 ≤ length (now out)) × (length (now answer) ≡ answerRoom) ⌝ }
-    ensures { λ r. ⌜ r ≤ at + 160 ⌝ }
+    requires { ⌜ (at + 296 ≤ length (now out)) × (length (now answer) ≡ answerRoom) ⌝ }
+    ensures { λ r. ⌜ r ≤ at + 296 ⌝ }
 {
     let named = text::put_field(out, at, number, b" call ");
     let end = answers_hex::put_hex(out, named, answer, size);

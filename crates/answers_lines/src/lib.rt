@@ -4,6 +4,7 @@ ghost use Prim.Native.Nat.{_+_, _*_, _≤_};
 ghost use lib.ListN.{length};
 use rules::Device;
 use rules::Phase;
+use rules::Reading;
 use rules::Security;
 use rules::Transfer;
 
@@ -117,10 +118,21 @@ fn put_fault(out: &mut [u8], at: usize, transfer: Transfer) -> usize
     text::put_field(out, spaced, transfer.faulty as u64, b"\n")
 }
 
+// The line of the last reading, three numbers.
+fn put_reading(out: &mut [u8], at: usize, reading: Reading) -> usize
+    requires { ⌜ at + 80 ≤ length (now out) ⌝ }
+    ensures { λ r. ⌜ r ≤ at + 80 ⌝ }
+{
+    let named = text::put(out, at, b"reading ");
+    let spared = text::put_field(out, named, reading.spare as u64, b" ");
+    let spaced = text::put_field(out, spared, reading.media as u64, b" ");
+    text::put_field(out, spaced, reading.controller as u64, b"\n")
+}
+
 // The lines of a device record.
 fn put_device(out: &mut [u8], at: usize, d: Device) -> usize
-    requires { ⌜ at + 700 ≤ length (now out) ⌝ }
-    ensures { λ r. ⌜ r ≤ at + 700 ⌝ }
+    requires { ⌜ at + 780 ≤ length (now out) ⌝ }
+    ensures { λ r. ⌜ r ≤ at + 780 ⌝ }
 {
     let transfer = d.transfer;
     let phase = transfer.phase;
@@ -133,13 +145,14 @@ fn put_device(out: &mut [u8], at: usize, d: Device) -> usize
         &numbers,
     );
     let at = put_passphrase(out, at, d.security);
-    put_fault(out, at, transfer)
+    let at = put_fault(out, at, transfer);
+    put_reading(out, at, d.reading)
 }
 
 // What follows the records' lines: the tail's line, and the end state.
 pub fn put_end(out: &mut [u8], number: u64, short: bool, d: Device, area: &[u8]) -> usize
-    requires { ⌜ 2 * length (now area) + 760 ≤ length (now out) ⌝ }
-    ensures { λ r. ⌜ r ≤ 2 * length (now (area .entry)) + 760 ⌝ }
+    requires { ⌜ 2 * length (now area) + 840 ≤ length (now out) ⌝ }
+    ensures { λ r. ⌜ r ≤ 2 * length (now (area .entry)) + 840 ⌝ }
 {
     let at = put_tail(out, 0, number, short);
     let at = put_device(out, at, d);

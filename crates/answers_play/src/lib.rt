@@ -9,6 +9,7 @@ use rules::ANSWER_ROOM;
 use rules::Device;
 use rules::Entry;
 use rules::LOG_RECORD;
+use rules::Reading;
 
 // The place after what was written, and the record after what was played.
 pub struct Answered {
@@ -35,8 +36,8 @@ fn answer_call(
     function: u16,
     request: &[u8],
 ) -> Answered
-    requires { ⌜ at + 160 ≤ length (now out) ⌝ }
-    ensures { λ r. ⌜ r .at ≤ at + 160 ⌝ }
+    requires { ⌜ at + 296 ≤ length (now out) ⌝ }
+    ensures { λ r. ⌜ r .at ≤ at + 296 ⌝ }
 {
     let mut answer = [0u8; ANSWER_ROOM];
     let v = revision as u64;
@@ -56,8 +57,8 @@ fn answer_record(
     area: &mut [u8],
     record: &[u8],
 ) -> Answered
-    requires { ⌜ at + 160 ≤ length (now out) ⌝ }
-    ensures { λ r. ⌜ r .at ≤ at + 160 ⌝ }
+    requires { ⌜ at + 296 ≤ length (now out) ⌝ }
+    ensures { λ r. ⌜ r .at ≤ at + 296 ⌝ }
 {
     let entry = log_record::decode(record);
     match entry {
@@ -81,6 +82,19 @@ fn answer_record(
             let at = text::put_field(out, at, number, b" power\n");
             played(at, module::power(d, area))
         }
+        Entry::Health {
+            spare,
+            media,
+            controller,
+        } => {
+            let new = Reading {
+                spare,
+                media,
+                controller,
+            };
+            let at = text::put_field(out, at, number, b" health\n");
+            played(at, module::reading(d, area, new))
+        }
         Entry::Bad => {
             let at = text::put_field(out, at, number, b" bad\n");
             Answered { at, device: d }
@@ -98,9 +112,9 @@ pub fn put_lines(
     area: &mut [u8],
 ) -> Answered
     requires { ⌜ have ≤ length (now buf) ⌝ }
-    requires { ⌜ have / recordSize * 160 ≤ length (now out) ⌝ }
+    requires { ⌜ have / recordSize * 296 ≤ length (now out) ⌝ }
     requires { ⌜ number + have / recordSize < 2 ^ 64 ⌝ }
-    ensures { λ r. ⌜ r .at ≤ have / recordSize * 160 ⌝ }
+    ensures { λ r. ⌜ r .at ≤ have / recordSize * 296 ⌝ }
 {
     let count = have / LOG_RECORD;
     let mut answered = Answered { at: 0, device: d };

@@ -5,9 +5,10 @@ use Prim.Native.Nat.{ℕ, _+_, _-_, _≤_}
 use native.Mathlib.{Nat.add-sub-cancel-left, Omega.arith}
 use lib.ListN.{length, take, drop}
 use borrow.Author.Tests.{eqb-true, leb-true}
-use Rattle.rules.{specs.Tests.{if_then_else_, _=?_, _≤?_}, specs.Log.{entryOf, kindIn, hostIn, revisionIn, functionIn, lengthIn, requestIn, goodCall, padded, bare}}
-use Rattle.rules.{specs.declared.Entry.Entry, specs.declared.Entry.the-variants.{Call, Tick, Power, Bad}, proofs.page.Choice.and-true}
+use Rattle.rules.{specs.Tests.{if_then_else_, _=?_, _≤?_}, specs.Log.{entryOf, kindIn, hostIn, revisionIn, functionIn, lengthIn, requestIn, goodCall, padded, bare, goodReading}}
+use Rattle.rules.{specs.declared.Entry.Entry, specs.declared.Entry.the-variants.{Call, Tick, Power, Health, Bad}, proofs.page.Choice.and-true}
 use Rattle.log_call.specs.Call.{callEntry}
+use Rattle.log_record.specs.Reading.{readingEntry}
 
 pub record IsCall (bytes : List ℕ) (host revision function size : ℕ) : Type 0 where
   pub long : length bytes ≡ 544
@@ -21,6 +22,7 @@ abbrev call? : Entry → ℕ
 call? (Call host revision function size) = 1
 call? Tick = 0
 call? Power = 0
+call? (Health spare media controller) = 0
 call? Bad = 0
 
 -- a good call's request has at most 536 bytes
@@ -38,16 +40,17 @@ module _ (bytes : List ℕ) {host revision function size : ℕ} where
 
   pub is-call : entryOf bytes ≡ Call host revision function size → IsCall bytes host revision function size
   unfolding entryOf
-  is-call = go (length bytes =? 544) refl (kindIn bytes =? 1 && goodCall bytes) refl (kindIn bytes =? 2 && bare bytes) (kindIn bytes =? 3 && bare bytes)
+  is-call = go (length bytes =? 544) refl (kindIn bytes =? 1 && goodCall bytes) refl (kindIn bytes =? 2 && bare bytes) (kindIn bytes =? 3 && bare bytes) (kindIn bytes =? 4 && goodReading bytes)
     where
-      go : (whole : Bool) → (length bytes =? 544) ≡ whole → (call : Bool) → (kindIn bytes =? 1 && goodCall bytes) ≡ call → (tick power : Bool)
-          → (if not whole then Bad else if call then callEntry bytes else if tick then Tick else if power then Power else Bad) ≡ Call host revision function size
+      go : (whole : Bool) → (length bytes =? 544) ≡ whole → (call : Bool) → (kindIn bytes =? 1 && goodCall bytes) ≡ call → (tick power reading : Bool)
+          → (if not whole then Bad else if call then callEntry bytes else if tick then Tick else if power then Power else if reading then readingEntry bytes else Bad) ≡ Call host revision function size
           → IsCall bytes host revision function size
-      go true w true g tick power e = as-read (eqb-true (length bytes) 544 w) (and-true (kindIn bytes =? 1) (goodCall bytes) g .1) e
-      go true w false g true power e = absurd (omega (arith, ap call? e))
-      go true w false g false true e = absurd (omega (arith, ap call? e))
-      go true w false g false false e = absurd (omega (arith, ap call? e))
-      go false w call g tick power e = absurd (omega (arith, ap call? e))
+      go true w true g tick power reading e = as-read (eqb-true (length bytes) 544 w) (and-true (kindIn bytes =? 1) (goodCall bytes) g .1) e
+      go true w false g true power reading e = absurd (omega (arith, ap call? e))
+      go true w false g false true reading e = absurd (omega (arith, ap call? e))
+      go true w false g false false true e = absurd (omega (arith, ap call? e))
+      go true w false g false false false e = absurd (omega (arith, ap call? e))
+      go false w call g tick power reading e = absurd (omega (arith, ap call? e))
 
 -- the part of the record that the request is
 pub request-part : (bytes : List ℕ) {size : ℕ} → size ≡ lengthIn bytes → take (8 + size - 8) (drop 8 bytes) ≡ requestIn bytes

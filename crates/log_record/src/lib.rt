@@ -2,8 +2,9 @@
 ghost use mathlib.Core.Path.{_≡_};
 ghost use lib.ListN.{length};
 ghost use Rattle.rules.specs.Tests.{if_then_else_};
-ghost use Rattle.rules.specs.Log.{recordSize, entryOf, bare};
+ghost use Rattle.rules.specs.Log.{recordSize, entryOf, bare, goodReading};
 ghost use Rattle.rules.specs.declared.Entry.the-variants.{Bad};
+ghost use Rattle.log_record.specs.Reading.{readingEntry};
 use rules::Entry;
 use rules::LOG_RECORD;
 
@@ -19,6 +20,32 @@ fn decode_bare(bytes: &[u8], entry: Entry) -> Entry
     Entry::Bad
 }
 
+// A health reading's record: a spare of at most 100, and every byte zero but the kind and the five at 8 to 12.
+fn good_reading(bytes: &[u8]) -> bool
+    requires { ⌜ length (now bytes) ≡ recordSize ⌝ }
+    ensures { λ r. ⌜ r ≡ goodReading (now (bytes .entry)) ⌝ }
+{
+    let most = bytes_numbers::byte(bytes, 8) <= 100;
+    let before = bytes_base::all_zero(&bytes[1..8]);
+    let after = bytes_base::all_zero(&bytes[13..]);
+    before & after & most
+}
+
+fn decode_reading(bytes: &[u8]) -> Entry
+    requires { ⌜ length (now bytes) ≡ recordSize ⌝ }
+    ensures { λ r. ⌜ r ≡ (if goodReading (now (bytes .entry)) then readingEntry (now (bytes .entry)) else Bad) ⌝ }
+{
+    let good = good_reading(bytes);
+    if !good {
+        return Entry::Bad;
+    }
+    Entry::Health {
+        spare: bytes_numbers::byte(bytes, 8),
+        media: bytes_numbers::half(bytes, 9),
+        controller: bytes_numbers::half(bytes, 11),
+    }
+}
+
 // What a record says; whatever is no record is bad. The kind is looked at first, so that no byte is scanned twice.
 pub fn decode(bytes: &[u8]) -> Entry
     ensures { λ r. ⌜ r ≡ entryOf (now (bytes .entry)) ⌝ }
@@ -31,6 +58,7 @@ pub fn decode(bytes: &[u8]) -> Entry
         1 => log_call::decode_call(bytes),
         2 => decode_bare(bytes, Entry::Tick),
         3 => decode_bare(bytes, Entry::Power),
+        4 => decode_reading(bytes),
         _ => Entry::Bad,
     }
 }

@@ -46,6 +46,16 @@ fn print_entry(entry: Entry) {
         }
         Entry::Tick => print(b"tick\n"),
         Entry::Power => print(b"power\n"),
+        Entry::Health {
+            spare,
+            media,
+            controller,
+        } => {
+            print(b"health ");
+            print_number(spare as u64, b" ");
+            print_number(media as u64, b" ");
+            print_number(controller as u64, b"\n");
+        }
         Entry::Bad => print(b"bad\n"),
     }
 }

@@ -3,7 +3,7 @@
 use mathlib.Core.{Path.{_≡_, refl, sym, _∙_, ap}, List.List}
 use Prim.Native.Nat.{ℕ, _+_, _≤_}
 use Rattle.rules.{specs.Record.Module, specs.Log.{entryOf, requestIn}, specs.Replay.{entryLine, recordLine}}
-use Rattle.rules.{specs.declared.Reply.Reply, specs.declared.Entry.Entry, specs.declared.Entry.the-variants.{Call, Tick, Power, Bad}}
+use Rattle.rules.{specs.declared.Reply.Reply, specs.declared.Entry.Entry, specs.declared.Entry.the-variants.{Call, Tick, Power, Health, Bad}}
 use Rattle.replay_step.specs.Stepped.{entryReply, recordReply}
 use Rattle.text.{specs.Wrote.{Wrote, WroteWithin, lineRoom}, proofs.Writing.rewrote}
 use Rattle.replay_play.specs.Replayed.{replyLine}
@@ -12,6 +12,7 @@ of-entry : (number : ℕ) (m : Module) (entry : Entry) (request : List ℕ) → 
 of-entry number m (Call host revision index size) request = refl
 of-entry number m Tick request = refl
 of-entry number m Power request = refl
+of-entry number m (Health spare media controller) request = refl
 of-entry number m Bad request = refl
 
 pub of-record : (number : ℕ) (m : Module) (bytes : List ℕ) {entry : Entry} {reply : Reply} → entry ≡ entryOf bytes → reply ≡ recordReply m bytes

@@ -5,7 +5,7 @@ use Prim.Native.Nat.{ℕ, _+_, _≤_}
 use Rattle.rules.specs.Text.{field}
 use Rattle.rules.specs.Record.{Module, moduleOf}
 use Rattle.rules.specs.Replay.{callLine, recordLine, recordPlayed}
-use Rattle.rules.specs.declared.{Reply.Reply, Entry.Entry, Entry.the-variants.{Call, Tick, Power, Bad}}
+use Rattle.rules.specs.declared.{Reply.Reply, Entry.Entry, Entry.the-variants.{Call, Tick, Power, Health, Bad}}
 use Rattle.text.specs.Wrote.{Wrote, lineRoom}
 use Rattle.replay_play.specs.declared.Played.{Played}
 
@@ -14,6 +14,7 @@ abbrev pub replyLine : (number : ℕ) → Entry → Reply → List ℕ
 replyLine number (Call host revision index size) reply = callLine number index reply
 replyLine number Tick reply = field number " tick\n"
 replyLine number Power reply = field number " power\n"
+replyLine number (Health spare media controller) reply = field number " health\n"
 replyLine number Bad reply = field number " bad\n"
 
 -- The text was written over old at a place, and new came of it; it took no more room than so much; the record that is answered and the area as it was left are

@@ -31,6 +31,11 @@ fn put_entry(out: &mut [u8], at: usize, number: u64, entry: Entry, reply: Reply)
         } => replay_call_line::put_call(out, at, number, function as u64, reply),
         Entry::Tick => text::put_field(out, at, number, b" tick\n"),
         Entry::Power => text::put_field(out, at, number, b" power\n"),
+        Entry::Health {
+            spare: _,
+            media: _,
+            controller: _,
+        } => text::put_field(out, at, number, b" health\n"),
         Entry::Bad => text::put_field(out, at, number, b" bad\n"),
     }
 }

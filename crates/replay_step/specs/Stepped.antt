@@ -3,10 +3,11 @@
 use mathlib.Core.{Path._≡_, List.List}
 use Prim.Native.Nat.{ℕ}
 use Rattle.rules.specs.Record.{Module, moduleOf}
-use Rattle.rules.specs.Module.{tickResult, powerResult}
+use Rattle.rules.specs.Module.{tickResult, powerResult, readingResult}
+use Rattle.rules.specs.Health.{newReading}
 use Rattle.rules.specs.Log.{entryOf, requestIn}
 use Rattle.rules.specs.Replay.{replayCall, recordPlayed}
-use Rattle.rules.specs.declared.{Verdict.Verdict, Verdict.the-variants.Accepted, Reply.Reply, Entry.Entry, Entry.the-variants.{Call, Tick, Power, Bad}}
+use Rattle.rules.specs.declared.{Verdict.Verdict, Verdict.the-variants.Accepted, Reply.Reply, Entry.Entry, Entry.the-variants.{Call, Tick, Power, Health, Bad}}
 use Rattle.module.specs.declared.Outcome.{Outcome}
 
 -- the reply to what a log record plays; a bad record plays nothing, so that nothing is refused and no byte answered
@@ -14,6 +15,7 @@ abbrev pub entryReply : Module → Entry → (request : List ℕ) → Reply
 entryReply m (Call host revision index size) request = replayCall m revision index request .reply
 entryReply m Tick request = tickResult m .reply
 entryReply m Power request = powerResult m .reply
+entryReply m (Health spare media controller) request = readingResult m (newReading spare media controller) .reply
 entryReply m Bad request = record { verdict = Accepted; length = 0 }
 
 abbrev pub recordReply : Module → (bytes : List ℕ) → Reply

@@ -8,6 +8,7 @@ ghost use Rattle.replay_step.specs.Stepped.{Stepped};
 use module::Outcome;
 use rules::Device;
 use rules::Entry;
+use rules::Reading;
 use rules::Reply;
 use rules::Verdict;
 
@@ -31,6 +32,18 @@ pub fn play(d: Device, area: &mut [u8], answer: &mut [u8], entry: Entry, bytes: 
         }
         Entry::Tick => module::tick(d, area),
         Entry::Power => module::power(d, area),
+        Entry::Health {
+            spare,
+            media,
+            controller,
+        } => {
+            let new = Reading {
+                spare,
+                media,
+                controller,
+            };
+            module::reading(d, area, new)
+        }
         Entry::Bad => Outcome {
             device: d,
             reply: Reply {

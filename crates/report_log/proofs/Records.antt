@@ -3,7 +3,7 @@
 use mathlib.Core.{Path.{_≡_, refl, sym, _∙_, ap, subst}, List.List}
 use Prim.Native.Nat.{ℕ}
 use Rattle.rules.{specs.Record.Module, specs.Log.{entryOf, requestIn}, specs.Report.{Counted, countedAs, recordCounted}}
-use Rattle.rules.{specs.declared.Reply.Reply, specs.declared.Entry.Entry, specs.declared.Entry.the-variants.{Call, Tick, Power, Bad}, proofs.page.Sums.{hosts-of, good-hosts, status-most}}
+use Rattle.rules.{specs.declared.Reply.Reply, specs.declared.Entry.Entry, specs.declared.Entry.the-variants.{Call, Tick, Power, Health, Bad}, proofs.page.Sums.{hosts-of, good-hosts, status-most}}
 use Rattle.replay_step.specs.Stepped.{entryReply, recordReply}
 use Rattle.report_tally.specs.Tally.{countedBy, HasCell}
 
@@ -11,6 +11,7 @@ of-entry : (m : Module) (entry : Entry) (request : List ℕ) → countedBy entry
 of-entry m (Call host revision index size) request = refl
 of-entry m Tick request = refl
 of-entry m Power request = refl
+of-entry m (Health spare media controller) request = refl
 of-entry m Bad request = refl
 
 entry-cell : (m : Module) (entry : Entry) (request : List ℕ) → hosts-of entry → HasCell entry (entryReply m entry request)
@@ -18,6 +19,7 @@ unfolding hosts-of
 entry-cell m (Call host revision index size) request g = (g .least, g .most, status-most m revision index request)
 entry-cell m Tick request g = tt
 entry-cell m Power request g = tt
+entry-cell m (Health spare media controller) request g = tt
 entry-cell m Bad request g = tt
 
 module _ (m : Module) (bytes : List ℕ) {entry : Entry} {reply : Reply} (decoded : entry ≡ entryOf bytes) (played : reply ≡ recordReply m bytes) where

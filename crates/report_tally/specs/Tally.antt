@@ -5,8 +5,8 @@ use Prim.Native.Nat.{ℕ, _-_, _≤_}
 use lib.ListN.{getD}
 use Rattle.rules.specs.Tests.{if_then_else_, _≤?_, _=?_}
 use Rattle.rules.specs.Replay.{printedStatus}
-use Rattle.rules.specs.Report.{Report, Counted, answered, masked, ticked, powered, bad, raised, raisedShort, withTail, largestCount}
-use Rattle.rules.specs.declared.{Counts.Counts, Reply.Reply, Entry.Entry, Entry.the-variants.{Call, Tick, Power, Bad}}
+use Rattle.rules.specs.Report.{Report, Counted, answered, masked, ticked, powered, measured, bad, raised, raisedShort, withTail, largestCount}
+use Rattle.rules.specs.declared.{Counts.Counts, Reply.Reply, Entry.Entry, Entry.the-variants.{Call, Tick, Power, Health, Bad}}
 use Rattle.report_tally.specs.declared.Counting.{Counting}
 
 -- what was counted so far, and whether a count would have passed the largest
@@ -23,6 +23,7 @@ countOf (answered host status) r = getD (getD (r .grid) (host - 1) []) status 0
 countOf masked r = r .counts .masks
 countOf ticked r = r .counts .ticks
 countOf powered r = r .counts .powers
+countOf measured r = r .counts .readings
 countOf bad r = r .counts .bads
 
 -- the report that is there, if there was no room, or the new one
@@ -43,6 +44,7 @@ abbrev pub countedBy : Entry → Reply → Counted
 countedBy (Call host revision index size) reply = if index =? 0 then masked else answered host (printedStatus (reply .verdict))
 countedBy Tick reply = ticked
 countedBy Power reply = powered
+countedBy (Health spare media controller) reply = measured
 countedBy Bad reply = bad
 
 -- the cell is there: hosts 1 to 4 and statuses 0 to 11
@@ -50,6 +52,7 @@ abbrev pub HasCell : Entry → Reply → Type 0
 HasCell (Call host revision index size) reply = (1 ≤ host) × (host ≤ 4) × (printedStatus (reply .verdict) ≤ 11)
 HasCell Tick reply = Unit {0}
 HasCell Power reply = Unit {0}
+HasCell (Health spare media controller) reply = Unit {0}
 HasCell Bad reply = Unit {0}
 
 -- the counts beside the grid: the new ones, where the count that is raised had room

@@ -5,7 +5,7 @@ ghost use mathlib.Core.List.{[]};
 ghost use Prim.Native.Nat.{_+_, _≤_, _<_};
 ghost use lib.ListN.{set, getD};
 ghost use Rattle.rules.specs.Tests.{if_then_else_, _≤?_};
-ghost use Rattle.rules.specs.Report.{answered, masked, ticked, powered, bad, largestCount, raisedAt, raisedCounts};
+ghost use Rattle.rules.specs.Report.{answered, masked, ticked, powered, measured, bad, largestCount, raisedAt, raisedCounts};
 ghost use Rattle.report_tally.specs.Tally.{tallyOf, tallied, countedBy, HasCell, countedOrFull, withTailCounted, Tallies};
 use rules::Counts;
 use rules::Entry;
@@ -92,6 +92,19 @@ fn count_power(counts: Counts) -> Counting
     }
 }
 
+fn count_reading(counts: Counts) -> Counting
+    ensures { λ r. ⌜ r ≡ countedOrFull (counts .readings) (raisedCounts measured counts) counts ⌝ }
+{
+    let count = counts.readings;
+    Counting {
+        counts: Counts {
+            readings: more(count),
+            ..counts
+        },
+        full: LARGEST_COUNT <= count,
+    }
+}
+
 fn count_bad(counts: Counts) -> Counting
     ensures { λ r. ⌜ r ≡ countedOrFull (counts .bads) (raisedCounts bad counts) counts ⌝ }
 {
@@ -131,6 +144,11 @@ pub fn count(grid: &mut [[u32; 12]; 4], counting: Counting, entry: Entry, reply:
         }
         Entry::Tick => count_tick(counts),
         Entry::Power => count_power(counts),
+        Entry::Health {
+            spare: _,
+            media: _,
+            controller: _,
+        } => count_reading(counts),
         Entry::Bad => count_bad(counts),
     }
 }

@@ -24,10 +24,10 @@ hostsRoom = 1112
 abbrev pub countRoom : ℕ
 countRoom = 32
 
--- the lines of 5 counts
+-- the lines of 6 counts
 abbrev pub countsRoom : ℕ
-countsRoom = 160
+countsRoom = 192
 
--- a report: the heading of 33 bytes and the lines need 33 + 1,112 + 160 = 1,305
+-- a report: the heading of 33 bytes and the lines need 33 + 1,112 + 192 = 1,337
 abbrev pub reportRoom : ℕ
 reportRoom = 2048

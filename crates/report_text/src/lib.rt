@@ -65,7 +65,8 @@ fn put_counts(out: &mut [u8], at: usize, counts: Counts) -> usize
     let masks = put_count(out, at, b"function 0 ", counts.masks);
     let ticks = put_count(out, masks, b"ticks ", counts.ticks);
     let powers = put_count(out, ticks, b"power ", counts.powers);
-    let bads = put_count(out, powers, b"bad ", counts.bads);
+    let readings = put_count(out, powers, b"readings ", counts.readings);
+    let bads = put_count(out, readings, b"bad ", counts.bads);
     put_count(out, bads, b"short ", counts.shorts)
 }
 

@@ -7,6 +7,7 @@ fn main() {
         masks: 0,
         ticks: 0,
         powers: 0,
+        readings: 0,
         bads: 0,
         shorts: 0,
     };

@@ -6,6 +6,7 @@ fn main() {
         masks: 4294967285,
         ticks: 4294967285,
         powers: 4294967285,
+        readings: 4294967285,
         bads: 4294967285,
         shorts: 4294967285,
     };

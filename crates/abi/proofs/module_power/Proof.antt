@@ -1,5 +1,6 @@
 -- `abi::module_power` meets its contract. The module's promise for the decoded record, kept in the bytes (proofs/Kept.antt).
 -- Assumes nothing.
+use mathlib.Core.List.{[]}
 use Rattle.abi_keep.proofs.Numbers.{passed-on}
 use Rattle.device_bytes.specs.Encoding.{decodeOf}
 use Rattle.rules.{specs.declared.Device.Device, specs.Record.moduleOf, specs.Module.powerResult}
@@ -11,7 +12,7 @@ keep-requires : tie.Need-keep-requires
 unfolding powerResult
 keep-requires c κs =
     let a = c .before .before .before .before .before .before .args in
-    event-keepable (a .bytes .now) (a .area .now) _ (of-decoded (λ (d : Device). powerResult (moduleOf d (a .area .now))) (c .before .before .decode .ensures) (c .before .power .ensures))
+    event-keepable (a .bytes .now) (a .area .now) _ [] (of-decoded (λ (d : Device). powerResult (moduleOf d (a .area .now))) (c .before .before .decode .ensures) (c .before .power .ensures))
 
 returns : tie.Need-returns
 returns c =

@@ -1,4 +1,4 @@
--- `answers_play::put_lines` meets its contract. The loop goes over the records of the front, and each line takes at most 160 bytes.
+-- `answers_play::put_lines` meets its contract. The loop goes over the records of the front, and each line takes at most 296 bytes.
 -- Assumes nothing.
 use mathlib.Core.Path.{_≡_}
 use Prim.Native.Nat.{_*_, _≤_, _-_, _/_}
@@ -9,7 +9,7 @@ use Rattle.answers_play.proofs.put_lines.Tie as tie
 
 abbrev Inv-loop : tie.InvT-loop
 Inv-loop out₀ buf have number area₀ count answered₀ j₀ out area answered j =
-    (count ≡ have / 544) × (j ≤ count) × (answered .at ≤ j * 160) × (length out ≡ length out₀) × (length area ≡ length area₀)
+    (count ≡ have / 544) × (j ≤ count) × (answered .at ≤ j * 296) × (length out ≡ length out₀) × (length area ≡ length area₀)
 
 abbrev μ-loop : tie.MeasureT-loop
 μ-loop out₀ buf have number area₀ count answered₀ j₀ out area answered j = count - j

@@ -1,7 +1,7 @@
 -- `replay_play::put_entry` meets its contract: each arm writes the line of its entry.
 use native.Mathlib.Omega.{arith}
 use borrow.Author.Needs.{needs}
-use Rattle.rules.specs.declared.Entry.the-variants.{Call, Tick, Power, Bad}
+use Rattle.rules.specs.declared.Entry.the-variants.{Call, Tick, Power, Health, Bad}
 use Rattle.replay_play.proofs.{Lines.as-told, put_entry.Statement.statement}
 use Rattle.replay_play.proofs.put_entry.Tie as tie
 
@@ -26,9 +26,16 @@ a-power c =
     let a = told .before .before .before .args in
     as-told (a .number) (a .reply) Power (told .enum-told2 .given .1) (omega (arith, w .within)) (w .wrote)
 
-bad : tie.Need-returns-4
-bad c =
+a-reading : tie.Need-returns-4
+a-reading c =
     let w = c .before .before .put-field3 .ensures in
+    let told = c .before .before .before .before .before in
+    let a = told .before .before .before .args in
+    as-told (a .number) (a .reply) (Health _ _ _) (told .entry2 .given .1) (omega (arith, w .within)) (w .wrote)
+
+bad : tie.Need-returns-5
+bad c =
+    let w = c .before .before .put-field4 .ensures in
     let told = c .before .before .before .before .before in
     let a = told .before .before .before .args in
     as-told (a .number) (a .reply) Bad (told .enum-told3 .given .1) (omega (arith, w .within)) (w .wrote)
@@ -51,10 +58,14 @@ put-entry-spec =
     (λ c. search needs)
     (λ c κs. search needs)
     (λ c. search needs)
+    (λ c κs. search needs)
+    (λ c. search needs)
     a-call
     (λ c. search needs)
     a-tick
     (λ c. search needs)
     a-power
+    (λ c. search needs)
+    a-reading
     (λ c. search needs)
     bad)

@@ -1,7 +1,7 @@
 -- `replay_step::play` meets its contract: each arm plays the entry, which is what the record says.
 use mathlib.Core.Path.{refl}
 use borrow.Author.Needs.{needs}
-use Rattle.rules.{specs.Record.moduleOf, specs.declared.Entry.the-variants.{Tick, Power, Bad}}
+use Rattle.rules.{specs.Record.moduleOf, specs.declared.Entry.the-variants.{Tick, Power, Health, Bad}}
 use Rattle.replay_step.proofs.{Steps.{as-entry, as-call, event-stepped, request-within}, play.Statement.statement}
 use Rattle.replay_step.proofs.play.Tie as tie
 
@@ -35,7 +35,15 @@ a-power c =
     let s = event-stepped (c .power .ensures) in
     as-entry (moduleOf (a .d) (a .area .now)) (a .bytes .now) Power (start .pre .1) (told .enum-told2 .given .1) (record { module-is = s .0; reply-is = s .1 })
 
-bad : tie.Need-returns-4
+a-reading : tie.Need-returns-4
+a-reading c =
+    let told = c .before .before .before in
+    let start = told .before .before .before .before .before in
+    let a = start .args in
+    let s = event-stepped (c .reading .ensures) in
+    as-entry (moduleOf (a .d) (a .area .now)) (a .bytes .now) (Health _ _ _) (start .pre .1) (told .entry2 .given .1) (record { module-is = s .0; reply-is = s .1 })
+
+bad : tie.Need-returns-5
 bad c =
     let start = c .before .before .before .before .before in
     let a = start .args in
@@ -67,4 +75,6 @@ play-spec =
     a-tick
     (λ c. search needs)
     a-power
+    (λ c. search needs)
+    a-reading
     bad)

@@ -2,7 +2,7 @@
 use mathlib.Core.Path.{refl}
 use native.Mathlib.Omega.{arith}
 use borrow.Author.Needs.{needs}
-use Rattle.rules.{specs.Report.{ticked, powered, bad}, specs.declared.Entry.the-variants.{Tick, Power, Bad}}
+use Rattle.rules.{specs.Report.{ticked, powered, measured, bad}, specs.declared.Entry.the-variants.{Tick, Power, Health, Bad}}
 use Rattle.report_tally.specs.Tally.{tallyOf, countedBy}
 use Rattle.report_tally.proofs.{Raising.{full-stays, beside, as-told, a-mask, an-answer, has-cell}, count.Statement.statement}
 use Rattle.report_tally.proofs.count.Tie as tie
@@ -50,7 +50,14 @@ a-power c =
     as-told (tallyOf (a .grid .now) (a .counting .counts) (a .counting .full)) (a .reply) Power (told .enum-told2 .given .1)
     (beside (a .grid .now) (a .counting) powered (told .before .before .before .if1 .left) refl (c .count-power .ensures))
 
-a-bad : tie.Need-returns-6
+a-reading : tie.Need-returns-6
+a-reading c =
+    let told = c .before in
+    let a = told .before .before .before .before .args in
+    as-told (tallyOf (a .grid .now) (a .counting .counts) (a .counting .full)) (a .reply) (Health _ _ _) (told .entry2 .given .1)
+    (beside (a .grid .now) (a .counting) measured (told .before .before .before .if1 .left) refl (c .count-reading .ensures))
+
+a-bad : tie.Need-returns-7
 a-bad c =
     let told = c .before in
     let a = told .before .before .before .before .args in
@@ -74,7 +81,10 @@ count-spec =
     (λ c κs. search needs)
     (λ c. search needs)
     (λ c κs. search needs)
+    (λ c. search needs)
+    (λ c κs. search needs)
     of-other
     a-tick
     a-power
+    a-reading
     a-bad)

@@ -7,7 +7,7 @@ use Rattle.report_tally.proofs.count_bad.Tie as tie
 returns : tie.Need-returns
 returns c =
     let counts = c .before .args .counts in
-    counted-or-full (λ (n : ℕ). record { masks = counts .masks; ticks = counts .ticks; powers = counts .powers; bads = n; shorts = counts .shorts }) (counts .bads) _ (c .more .ensures)
+    counted-or-full (λ (n : ℕ). record { masks = counts .masks; ticks = counts .ticks; powers = counts .powers; readings = counts .readings; bads = n; shorts = counts .shorts }) (counts .bads) _ (c .more .ensures)
 
 -- by search: more-requires
 pub count-bad-spec : {M : Type 1} → statement M

@@ -7,7 +7,7 @@ use Rattle.report_tally.proofs.count_power.Tie as tie
 returns : tie.Need-returns
 returns c =
     let counts = c .before .args .counts in
-    counted-or-full (λ (n : ℕ). record { masks = counts .masks; ticks = counts .ticks; powers = n; bads = counts .bads; shorts = counts .shorts }) (counts .powers) _ (c .more .ensures)
+    counted-or-full (λ (n : ℕ). record { masks = counts .masks; ticks = counts .ticks; powers = n; readings = counts .readings; bads = counts .bads; shorts = counts .shorts }) (counts .powers) _ (c .more .ensures)
 
 -- by search: more-requires
 pub count-power-spec : {M : Type 1} → statement M

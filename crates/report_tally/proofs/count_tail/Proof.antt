@@ -14,7 +14,7 @@ returns-2 c =
     let a = c .before .before .before .before .args in
     let counts = a .counting .counts in
     a-tail (a .short) (a .counting) (c .before .before .if1 .left)
-    (counted-or-full (λ (n : ℕ). record { masks = counts .masks; ticks = counts .ticks; powers = counts .powers; bads = counts .bads; shorts = n }) (counts .shorts) _ (c .more .ensures))
+    (counted-or-full (λ (n : ℕ). record { masks = counts .masks; ticks = counts .ticks; powers = counts .powers; readings = counts .readings; bads = counts .bads; shorts = n }) (counts .shorts) _ (c .more .ensures))
 
 -- by search: more-requires
 pub count-tail-spec : {M : Type 1} → statement M

@@ -7,7 +7,7 @@ use Rattle.report_tally.proofs.count_tick.Tie as tie
 returns : tie.Need-returns
 returns c =
     let counts = c .before .args .counts in
-    counted-or-full (λ (n : ℕ). record { masks = counts .masks; ticks = n; powers = counts .powers; bads = counts .bads; shorts = counts .shorts }) (counts .ticks) _ (c .more .ensures)
+    counted-or-full (λ (n : ℕ). record { masks = counts .masks; ticks = n; powers = counts .powers; readings = counts .readings; bads = counts .bads; shorts = counts .shorts }) (counts .ticks) _ (c .more .ensures)
 
 -- by search: more-requires
 pub count-tick-spec : {M : Type 1} → statement M
