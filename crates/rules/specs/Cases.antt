@@ -172,10 +172,15 @@ cases =
     (at-revision 2 1 [] gets health (0 ∷ 0 ∷ 0 ∷ 0 ∷ 0x1A ∷ 0x02 ∷ 0 ∷ 0 ∷ 0 ∷ 0 ∷ 0 ∷ 0 ∷ 0 ∷ 0 ∷ 0 ∷ 0 ∷ 0 ∷ 0 ∷ 0 ∷ 0 ∷ [])
     ∷ at-revision 1 1 [] gets health (0 ∷ 0 ∷ 0 ∷ 0 ∷ 0x1A ∷ 0x02 ∷ 0 ∷ 0 ∷ 0 ∷ 0 ∷ 0 ∷ 0 ∷ 0 ∷ 0 ∷ 0 ∷ 0 ∷ 0 ∷ 0 ∷ 0 ∷ 0 ∷ [])
     ∷ [])
-    -- and with all three alarms tripped: spare 19 below 20; media 0501h above 0500h; controller 8000h, which is 0, above 8001h
+    -- and with all three alarms tripped: spare 19 below 20; media 0501h above 0500h; controller 8000h, which is 0, above 8001h; none is while the alarms are
+    -- off, nor what is at its threshold
     ∷ case
-    (ask 17 (0x07 ∷ 0x00 ∷ 20 ∷ 0x00 ∷ 0x05 ∷ 0x01 ∷ 0x80 ∷ []) gets status 0
+    (ask 17 (0x00 ∷ 0x00 ∷ 20 ∷ 0x00 ∷ 0x05 ∷ 0x01 ∷ 0x80 ∷ []) gets status 0
     ∷ measuring 19 0x0501 0x8000
+    ∷ ask 1 [] gets health (0 ∷ 0 ∷ 0 ∷ 0 ∷ 0x1A ∷ 0x02 ∷ 0 ∷ 0 ∷ 0 ∷ 0 ∷ 0 ∷ 0 ∷ 0 ∷ 19 ∷ 0 ∷ 0x00 ∷ 0x01 ∷ 0x05 ∷ 0x00 ∷ 0x80 ∷ [])
+    ∷ ask 17 (0x07 ∷ 0x00 ∷ 20 ∷ 0x00 ∷ 0x05 ∷ 0x01 ∷ 0x80 ∷ []) gets status 0
     ∷ ask 1 [] gets health (0 ∷ 0 ∷ 0 ∷ 0 ∷ 0x1A ∷ 0x02 ∷ 0 ∷ 0 ∷ 0 ∷ 0 ∷ 0 ∷ 0 ∷ 0 ∷ 19 ∷ 0 ∷ 0x07 ∷ 0x01 ∷ 0x05 ∷ 0x00 ∷ 0x80 ∷ [])
+    ∷ measuring 20 0x0500 0x8001
+    ∷ ask 1 [] gets health (0 ∷ 0 ∷ 0 ∷ 0 ∷ 0x1A ∷ 0x02 ∷ 0 ∷ 0 ∷ 0 ∷ 0 ∷ 0 ∷ 0 ∷ 0 ∷ 20 ∷ 0 ∷ 0x00 ∷ 0x00 ∷ 0x05 ∷ 0x01 ∷ 0x80 ∷ [])
     ∷ [])
     ∷ []

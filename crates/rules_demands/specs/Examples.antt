@@ -83,7 +83,7 @@ looking = 4 ∷ 5 ∷ 6 ∷ 11 ∷ 12 ∷ 13 ∷ []
 pub record CasesHeld : Type 0 where
   pub hold : failing 0 cases ≡ []
   pub seventeen : length cases ≡ 17
-  pub how-long : map (λ c. length (c .deeds)) cases ≡ 1 ∷ 1 ∷ 1 ∷ 1 ∷ 1 ∷ 1 ∷ 1 ∷ 1 ∷ 2 ∷ 2 ∷ 2 ∷ 4 ∷ 5 ∷ 5 ∷ 12 ∷ 2 ∷ 3 ∷ []
+  pub how-long : map (λ c. length (c .deeds)) cases ≡ 1 ∷ 1 ∷ 1 ∷ 1 ∷ 1 ∷ 1 ∷ 1 ∷ 1 ∷ 2 ∷ 2 ∷ 2 ∷ 4 ∷ 5 ∷ 5 ∷ 12 ∷ 2 ∷ 7 ∷ []
   pub wrong-ones-fail : failing 0 wrongCases ≡ 0 ∷ 1 ∷ 2 ∷ 3 ∷ 4 ∷ 5 ∷ 6 ∷ []
   pub ends-seen : map (notTheEndOf 0 cases) nearMisses ≡ replicate 7 looking
 

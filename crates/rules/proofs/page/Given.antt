@@ -74,10 +74,10 @@ each-of (number ∷ numbers) (w ∷ ws) e refusal (inr a) = each-of numbers ws (
 pub each-given : (refusal : Refusal) → Among refusalNumbers refusal → GivenBySome refusal
 each-given refusal a = each-of refusalNumbers witnesses claim refusal a
 
--- The same of a reading's numbers: an area of no bytes, a record in which nothing was given while Receiving, and a spare of 101.
+-- The same of a reading's numbers, by a spare of 101 each time: R2 and R3 come before R4, and R2 before R3.
 pub each-by-reading : (refusal : Refusal) → Among readingNumbers refusal → GivenByReading refusal
 unfolding zeros? possible possibleTransfer possibleSecurity possibleThresholds possibleReading verdict readingResult
-each-by-reading refusal (inl same) = record { found = moduleOf fresh []; new = newReading 0 0 0; refused = ap Refused (sym same) }
-each-by-reading refusal (inr (inl same)) = record { found = inPhase Receiving 0; new = newReading 0 0 0; refused = ap Refused (sym same) }
+each-by-reading refusal (inl same) = record { found = moduleOf (inPhase Receiving 0 .device) []; new = newReading 101 0 0; refused = ap Refused (sym same) }
+each-by-reading refusal (inr (inl same)) = record { found = inPhase Receiving 0; new = newReading 101 0 0; refused = ap Refused (sym same) }
 each-by-reading refusal (inr (inr (inl same))) = record { found = inPhase Idle 0; new = newReading 101 0 0; refused = ap Refused (sym same) }
 each-by-reading refusal (inr (inr (inr a))) = absurd a
