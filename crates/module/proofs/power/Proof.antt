@@ -11,10 +11,10 @@ enum-told c = search needs
 returns : tie.Need-returns
 unfolding powerResult
 returns c =
-    let a = c .before .before .before .before .before .before .before .before .args in
+    let a = c .before .before .before .before .before .before .before .before .before .args in
     let m = moduleOf (a .d) (a .area .now) in
-    as-changed m (powered m .device) (eventChecks m) (c .before .before .before .before .before .before .judge-event .ensures) (c .before .before .before .before .enum-told .given .1) (c .result .ensures)
-    (λ i. a .d with-transfer (c .before .before .before .power .ensures i) with-security (c .before .before .power2 .ensures i))
+    as-changed m (powered m .device) (eventChecks m) (c .before .before .before .before .before .before .before .judge-event .ensures) (c .before .before .before .before .before .enum-told .given .1) (c .result .ensures)
+    (λ i. a .d with-transfer (c .before .before .before .before .power .ensures i) with-security (c .before .before .before .power2 .ensures i))
 
 returns-2 : tie.Need-returns-2
 unfolding powerResult

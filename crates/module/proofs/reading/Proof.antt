@@ -12,9 +12,9 @@ enum-told c = search needs
 returns : tie.Need-returns
 unfolding readingResult
 returns c =
-    let a = c .before .before .before .before .before .before .before .args in
+    let a = c .before .before .before .before .before .before .before .before .args in
     let m = moduleOf (a .d) (a .area .now) in
-    as-changed m (kept m (a .new) .device) (readingChecks m (a .new)) (c .before .before .before .before .before .judge-reading .ensures) (c .before .before .before .enum-told .given .1) (c .result .ensures) refl
+    as-changed m (kept m (a .new) .device) (readingChecks m (a .new)) (c .before .before .before .before .before .before .judge-reading .ensures) (c .before .before .before .before .enum-told .given .1) (c .result .ensures) refl
 
 returns-2 : tie.Need-returns-2
 unfolding readingResult

@@ -21,10 +21,10 @@ tick-requires c κs =
 returns : tie.Need-returns
 unfolding tickResult
 returns c =
-    let a = c .before .before .before .before .before .before .before .before .args in
+    let a = c .before .before .before .before .before .before .before .before .before .args in
     let m = moduleOf (a .d) (a .area .now) in
-    as-changed m (ticked m .device) (eventChecks m) (c .before .before .before .before .before .before .judge-event .ensures) (c .before .before .before .before .enum-told .given .1) (c .result .ensures)
-    (ap (λ (t : Transfer). a .d with-transfer t) (c .before .before .before .tick .ensures))
+    as-changed m (ticked m .device) (eventChecks m) (c .before .before .before .before .before .before .before .judge-event .ensures) (c .before .before .before .before .before .enum-told .given .1) (c .result .ensures)
+    (ap (λ (t : Transfer). a .d with-transfer t) (c .before .before .before .before .tick .ensures))
 
 returns-2 : tie.Need-returns-2
 unfolding tickResult
