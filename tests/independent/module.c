@@ -1,4 +1,4 @@
-/* The module's rules, in the order of document 01. */
+/* The module's rules, in the order of document 01, with health readings after the thresholds. */
 #include "module.h"
 
 #include "image.h"
@@ -16,6 +16,7 @@ enum {
 #define SPECIFIC(extended) (7u | (uint32_t)(extended) << 16)
 
 enum {
+    GET_HEALTH = 1,
     GET_THRESHOLD = 2,
     GET_FW_INFO = 12,
     START = 13,
@@ -65,7 +66,8 @@ bool device_possible(const struct device *device)
         return false;
     if (!device->enabled && !all_zero(device->passphrase, PASSPHRASE_BYTES))
         return false;
-    return device->attempts <= WRONG_MOST && device->enable <= 7 && device->spare <= 100;
+    return device->attempts <= WRONG_MOST && device->enable <= 7
+        && device->spare <= SPARE_MOST && device->read_spare <= SPARE_MOST;
 }
 
 /* The current context is live in every phase but Idle. */
@@ -80,8 +82,8 @@ static bool live(const struct device *device, uint32_t context)
 static uint32_t served_mask(uint64_t revision)
 {
     switch (revision) {
-    case 1: return 0x00000005;
-    case 2: return 0x00FBF005;
+    case 1: return 0x00000007;
+    case 2: return 0x00FBF007;
     default: return 0;
     }
 }
@@ -109,6 +111,7 @@ static size_t request_bytes(uint64_t function)
 static int32_t answer_bytes(uint64_t function)
 {
     switch (function) {
+    case GET_HEALTH: return 132;
     case GET_THRESHOLD: return 12;
     case GET_FW_INFO: return 44;
     case START: return 8;
@@ -131,13 +134,60 @@ static uint32_t get_threshold(const struct device *device, uint8_t *answer)
 
 static uint32_t set_threshold(struct device *device, const uint8_t *request)
 {
-    if (request[2] > 100)
+    if (request[2] > SPARE_MOST)
         return INVALID;
     device->enable = get16(request) & 7;
     device->spare = request[2];
     device->media = get16(request + 3);
     device->controller = get16(request + 5);
     return DONE;
+}
+
+/* ---- Health readings ---- */
+
+/* What a temperature word stands for, in sixteenths of a degree: sign in bit 15, and 0 has two. */
+static int32_t sixteenths(uint16_t word)
+{
+    int32_t size = word & 0x7FFF;
+
+    return (word & 0x8000) != 0 ? -size : size;
+}
+
+/* Which enabled alarms the reading trips; their bits are those of the enable bits. */
+static uint8_t alarm_trips(const struct device *device)
+{
+    unsigned spare = device->read_spare < device->spare;
+    unsigned media = sixteenths(device->read_media) > sixteenths(device->media);
+    unsigned controller = sixteenths(device->read_controller) > sixteenths(device->controller);
+
+    return (uint8_t)((spare | media << 1 | controller << 2) & device->enable);
+}
+
+/* Table 3-2 of the V1.6 paper, of which only these fields are marked valid. */
+static uint32_t get_health(const struct device *device, uint8_t *answer)
+{
+    put32(answer + 4, 1u << 1 | 1u << 3 | 1u << 4 | 1u << 9); /* spare, temperatures, trips */
+    answer[13] = device->read_spare;
+    answer[15] = alarm_trips(device);
+    put16(answer + 16, device->read_media);
+    put16(answer + 18, device->read_controller);
+    return DONE;
+}
+
+int32_t device_reading(struct device *device, const uint8_t *area, size_t area_len, uint8_t spare,
+                       uint16_t media, uint16_t controller)
+{
+    (void)area;
+    if (area_len != AREA_BYTES)
+        return R2;
+    if (!device_possible(device))
+        return R3;
+    if (spare > SPARE_MOST)
+        return R4;
+    device->read_spare = spare;
+    device->read_media = media;
+    device->read_controller = controller;
+    return 0;
 }
 
 /* ---- A firmware transfer ---- */
@@ -386,6 +436,7 @@ static uint32_t serve(struct device *device, uint8_t *area, uint64_t function,
                       const uint8_t *request, size_t request_len, uint8_t *answer)
 {
     switch (function) {
+    case GET_HEALTH: return get_health(device, answer);
     case GET_THRESHOLD: return get_threshold(device, answer);
     case GET_FW_INFO: return get_fw_info(device, answer);
     case START: return start(device, answer);

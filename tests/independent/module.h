@@ -1,5 +1,5 @@
-/* One persistent memory module: its device record, and what a call, a tick and
- * a power cycle do to it. "01" in a comment is the rules page, document 01. */
+/* One persistent memory module: its device record, and what a call, a tick, a
+ * power cycle and a health reading do to it. "01" in a comment is the rules page, document 01. */
 #ifndef MODULE_H
 #define MODULE_H
 
@@ -11,10 +11,11 @@ enum phase { IDLE, RECEIVING, VERIFYING, STAGED, FAILED };
 enum {
     AREA_BYTES = 16384,
     PIECE_MOST = 512,
-    ANSWER_LEAST = 64,
+    ANSWER_LEAST = 132,
     VERIFY_TICKS = 8,
     TICK_MICROSECONDS = 1000,
     WRONG_MOST = 10,
+    SPARE_MOST = 100,
     PASSPHRASE_BYTES = 32
 };
 
@@ -22,7 +23,7 @@ enum {
 enum fault { NO_FAULT, SIZE_FAULT, NUMBER_FAULT, COUNT_FAULT, VERSION_FAULT, SUM_FAULT };
 
 /* The refusals that give no answer bytes. */
-enum { R1 = -1, R2 = -2, R3 = -3 };
+enum { R1 = -1, R2 = -2, R3 = -3, R4 = -4 };
 
 /* 01, "The device record". */
 struct device {
@@ -34,10 +35,13 @@ struct device {
     uint16_t media;      /* media temperature threshold */
     uint16_t controller; /* controller temperature threshold */
     uint8_t spare;       /* spare threshold */
+    uint8_t read_spare;  /* the last health reading: spare and two temperatures */
+    uint16_t read_media;
+    uint16_t read_controller;
     uint8_t phase;       /* an enum phase */
     uint8_t ticks;       /* ticks left */
-    uint8_t fault;       /* in Failed the image's first fault, an enum fault, */
-    uint8_t fault_record; /* and the number of the image record that has it */
+    uint8_t fault;       /* in Failed the image's first fault, an enum fault */
+    uint8_t fault_record; /* the number of the image record that has it */
     uint8_t enabled;     /* these three: 0 or 1 */
     uint8_t locked;
     uint8_t frozen;
@@ -69,5 +73,9 @@ int32_t device_call(struct device *device, uint8_t *area, size_t area_len, uint6
 /* 0, or R2 or R3 with nothing written. */
 int32_t device_tick(struct device *device, const uint8_t *area, size_t area_len);
 int32_t device_power(struct device *device, const uint8_t *area, size_t area_len);
+
+/* 0, or R2, R3 or R4 with nothing written. */
+int32_t device_reading(struct device *device, const uint8_t *area, size_t area_len, uint8_t spare,
+                       uint16_t media, uint16_t controller);
 
 #endif

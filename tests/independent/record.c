@@ -1,13 +1,12 @@
 /* The device record's 128 bytes, little-endian:
  *
- *    0 phase          6 enable bits (2)     24 staged version (8)    64 passphrase (32)
- *    1 enabled        8 contexts (4)        32 spare threshold       96 zeros to 127
- *    2 locked        12 received (4)        33 zero
- *    3 frozen        16 running version (8) 34 media threshold (2)
- *    4 attempts                             36 controller threshold (2)
- *    5 ticks left                           38 fault
- *                                           39 faulty image record
- *                                           40 zeros to 63
+ *    0 phase          6 enable bits (2)     32 spare threshold           40 spare read
+ *    1 enabled        8 contexts (4)        33 zero                      41 zero
+ *    2 locked        12 received (4)        34 media threshold (2)       42 media read (2)
+ *    3 frozen        16 running version (8) 36 controller threshold (2)  44 controller read (2)
+ *    4 attempts      24 staged version (8)  38 fault                     46 zeros to 63
+ *    5 ticks left                           39 faulty image record       64 passphrase (32)
+ *                                                                        96 zeros to 127
  */
 #include "record.h"
 
@@ -30,13 +29,16 @@ void record_encode(const struct device *device, uint8_t record[RECORD_BYTES])
     put16(record + 36, device->controller);
     record[38] = device->fault;
     record[39] = device->fault_record;
+    record[40] = device->read_spare;
+    put16(record + 42, device->read_media);
+    put16(record + 44, device->read_controller);
     memcpy(record + 64, device->passphrase, PASSPHRASE_BYTES);
 }
 
 static bool is_record(const uint8_t *record, size_t record_len)
 {
     return record_len == RECORD_BYTES && record[0] <= FAILED && record[1] <= 1 && record[2] <= 1
-        && record[3] <= 1 && record[33] == 0 && all_zero(record + 40, 24)
+        && record[3] <= 1 && record[33] == 0 && record[41] == 0 && all_zero(record + 46, 18)
         && all_zero(record + 96, 32);
 }
 
@@ -62,6 +64,9 @@ bool record_decode(const uint8_t *record, size_t record_len, struct device *devi
     device->controller = get16(record + 36);
     device->fault = record[38];
     device->fault_record = record[39];
+    device->read_spare = record[40];
+    device->read_media = get16(record + 42);
+    device->read_controller = get16(record + 44);
     memcpy(device->passphrase, record + 64, PASSPHRASE_BYTES);
     return true;
 }
@@ -115,6 +120,18 @@ int32_t independent_power(uint8_t *record, size_t record_len, const uint8_t *are
     return result;
 }
 
+int32_t independent_reading(uint8_t *record, size_t record_len, const uint8_t *area,
+                            size_t area_len, uint8_t spare, uint16_t media, uint16_t controller)
+{
+    struct device device;
+
+    record_decode(record, record_len, &device);
+    int32_t result = device_reading(&device, area, area_len, spare, media, controller);
+    if (result >= 0)
+        record_encode(&device, record);
+    return result;
+}
+
 int32_t independent_adopt(uint8_t *record, size_t record_len)
 {
     struct device device;
@@ -122,7 +139,7 @@ int32_t independent_adopt(uint8_t *record, size_t record_len)
     record_decode(record, record_len, &device);
     if (device_possible(&device))
         return 0;
-    if (device.phase != FAILED || device.fault != NO_FAULT || device.fault_record != 0)
+    if (device.phase != FAILED || !all_zero(record + 38, 26)) /* as they were before */
         return R3;
     device.fault = SIZE_FAULT; /* with any fault it is possible, if it was before */
     if (!device_possible(&device))

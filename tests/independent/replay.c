@@ -15,7 +15,7 @@
 #include "report.h"
 
 /* A log record: kind (1), host (1), revision (2), function (2), request length (2),
- * request padded with zeros. */
+ * request padded with zeros. A health reading has its five bytes where a request begins. */
 enum {
     LOG_RECORD = 544,
     HOST_AT = 1,
@@ -24,9 +24,13 @@ enum {
     LENGTH_AT = 6,
     REQUEST_AT = 8,
     REQUEST_MOST = LOG_RECORD - REQUEST_AT,
+    SPARE_AT = 8,
+    MEDIA_AT = 9,
+    CONTROLLER_AT = 11,
+    READING_END = 13,
     RECORDS_AT_ONCE = 120
 };
-enum kind { BAD = 0, CALL = 1, TICK = 2, POWER = 3 };
+enum kind { BAD = 0, CALL = 1, TICK = 2, POWER = 3, HEALTH = 4 };
 
 /* Each word of the program: the page's text, the fuller trace, and the counts of all logs. */
 enum text { REPLAY, ANSWERS, REPORT };
@@ -91,12 +95,14 @@ static void write_field(const char *name, uint64_t number)
     write_line(line, put_number(put_text(line, name), number));
 }
 
-static void write_pair(const char *name, uint64_t one, uint64_t other)
+static void write_fields(const char *name, const uint16_t *numbers, size_t count)
 {
     char line[64];
-    char *at = put_number(put_text(line, name), one);
+    char *at = put_text(line, name);
 
-    write_line(line, put_number(put_text(at, " "), other));
+    for (size_t i = 0; i < count; i++)
+        at = put_number(put_text(at, " "), numbers[i]);
+    write_line(line, at);
 }
 
 static void write_bytes(const char *name, const uint8_t *bytes, size_t length)
@@ -121,6 +127,9 @@ static enum kind kind_of(const uint8_t *record)
         return all_zero(record + 1, LOG_RECORD - 1) ? TICK : BAD;
     case POWER:
         return all_zero(record + 1, LOG_RECORD - 1) ? POWER : BAD;
+    case HEALTH:
+        return all_zero(record + 1, SPARE_AT - 1) && record[SPARE_AT] <= SPARE_MOST
+            && all_zero(record + READING_END, LOG_RECORD - READING_END) ? HEALTH : BAD;
     default:
         return BAD;
     }
@@ -152,6 +161,10 @@ static enum kind play(struct replay *replay, const uint8_t *record)
         break;
     case POWER:
         no_refusal(device_power(&replay->device, replay->area, AREA_BYTES));
+        break;
+    case HEALTH:
+        no_refusal(device_reading(&replay->device, replay->area, AREA_BYTES, record[SPARE_AT],
+                                  get16(record + MEDIA_AT), get16(record + CONTROLLER_AT)));
         break;
     case BAD:
         break;
@@ -186,6 +199,9 @@ static void write_step(const struct replay *replay, const uint8_t *record, enum 
     case POWER:
         at = put_text(at, " power");
         break;
+    case HEALTH:
+        at = put_text(at, " health");
+        break;
     case BAD:
         at = put_text(at, " bad");
         break;
@@ -205,6 +221,8 @@ static size_t count_of(const struct replay *replay, const uint8_t *record, enum 
         return TICKS;
     case POWER:
         return POWER_CYCLES;
+    case HEALTH:
+        return READINGS;
     default:
         return BAD_RECORDS;
     }
@@ -246,6 +264,8 @@ static void tail(struct replay *replay)
 
 static void write_state(const struct device *device, const uint8_t *area)
 {
+    const uint16_t fault[] = {device->fault, device->fault_record};
+    const uint16_t reading[] = {device->read_spare, device->read_media, device->read_controller};
     char line[24];
 
     write_line(line, put_text(put_text(line, "phase "), phase_names[device->phase]));
@@ -263,7 +283,8 @@ static void write_state(const struct device *device, const uint8_t *area)
     write_field("frozen ", device->frozen);
     write_field("attempts ", device->attempts);
     write_bytes("passphrase ", device->passphrase, PASSPHRASE_BYTES);
-    write_pair("fault ", device->fault, device->fault_record);
+    write_fields("fault", fault, 2);
+    write_fields("reading", reading, 3);
     write_bytes("area ", area, AREA_BYTES);
 }
 

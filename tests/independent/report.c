@@ -38,6 +38,7 @@ void report_write(const uint32_t report[COUNTS])
     write_count("function 0", report[FUNCTION_0]);
     write_count("ticks", report[TICKS]);
     write_count("power", report[POWER_CYCLES]);
+    write_count("readings", report[READINGS]);
     write_count("bad", report[BAD_RECORDS]);
     write_count("short", report[SHORT_TAILS]);
 }

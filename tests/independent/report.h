@@ -11,6 +11,7 @@ enum {
     FUNCTION_0 = HOSTS * STATUSES, /* calls that have no status */
     TICKS,
     POWER_CYCLES,
+    READINGS,
     BAD_RECORDS,
     SHORT_TAILS,
     COUNTS
