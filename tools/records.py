@@ -13,20 +13,23 @@ IMAGE_MOST = 128
 IMAGE_PART = 112
 PASSPHRASE = 32
 
-CALL, TICK, POWER = 1, 2, 3
+CALL, TICK, POWER, READING = 1, 2, 3, 4
+READING_AT, READING_END = 8, 13     # its five bytes: spare, media (2), controller (2)
+SPARE_MOST = 100
 
+GET_HEALTH = 1
 MASK, GET_THRESHOLD, INFO, START, SEND, FINISH, QUERY, SET_THRESHOLD = 0, 2, 12, 13, 14, 15, 16, 17
 SECURITY, SET_PASSPHRASE, DISABLE, UNLOCK, FREEZE = 19, 20, 21, 22, 23
 
 NAMES = {
-    MASK: "Function mask", GET_THRESHOLD: "Get Threshold", INFO: "Get FW Info", START: "Start", SEND: "Send",
+    MASK: "Function mask", GET_HEALTH: "Get Health", GET_THRESHOLD: "Get Threshold", INFO: "Get FW Info", START: "Start", SEND: "Send",
     FINISH: "Finish", QUERY: "Query Finish", SET_THRESHOLD: "Set Threshold", SECURITY: "Get Security State",
     SET_PASSPHRASE: "Set Passphrase", DISABLE: "Disable", UNLOCK: "Unlock", FREEZE: "Freeze",
 }
 
 # Request bytes. Send has 12 and its piece; function 0 reads past its request.
 REQUEST_BYTES = {
-    GET_THRESHOLD: 0, INFO: 0, START: 0, FINISH: 8, QUERY: 4, SET_THRESHOLD: 7, SECURITY: 0,
+    GET_HEALTH: 0, GET_THRESHOLD: 0, INFO: 0, START: 0, FINISH: 8, QUERY: 4, SET_THRESHOLD: 7, SECURITY: 0,
     SET_PASSPHRASE: 2 * PASSPHRASE, DISABLE: PASSPHRASE, UNLOCK: PASSPHRASE, FREEZE: 0,
 }
 SEND_HEAD = 12
@@ -52,6 +55,10 @@ def event(kind):
     return bytes([kind]).ljust(RECORD, b"\0")
 
 
+def reading(spare, media, controller):
+    return event(READING)[:READING_AT] + bytes([spare]) + le(media, 2) + le(controller, 2) + bytes(RECORD - READING_END)
+
+
 def poke(record, at, byte):
     return record[:at] + bytes([byte]) + record[at + 1:]
 
@@ -59,10 +66,10 @@ def poke(record, at, byte):
 def why_bad(record):
     """Why the page calls this record bad, or None."""
     kind, host, length = record[0], record[1], number_at(record, 6, 2)
-    if kind in (TICK, POWER):
+    if kind in (TICK, POWER, READING):
         return bare_fault(record)
     if kind != CALL:
-        return f"kind {kind} is not 1 (call), 2 (tick) or 3 (power)"
+        return f"kind {kind} is not 1 (call), 2 (tick), 3 (power) or 4 (reading)"
     if not 1 <= host <= 4:
         return f"host {host} is not 1 to 4"
     if length > REQUEST_MOST:
@@ -74,9 +81,12 @@ def why_bad(record):
 
 
 def bare_fault(record):
+    what, own = {TICK: ("tick", ()), POWER: ("power cycle", ()), READING: ("reading", range(READING_AT, READING_END))}[record[0]]
     for at in range(1, RECORD):
-        if record[at]:
-            return f"byte {at} of a {'tick' if record[0] == TICK else 'power cycle'} is {record[at]} and not zero"
+        if record[at] and at not in own:
+            return f"byte {at} of a {what} is {record[at]} and not zero"
+    if record[0] == READING and record[READING_AT] > SPARE_MOST:
+        return f"spare {record[READING_AT]} is over {SPARE_MOST}"
     return None
 
 

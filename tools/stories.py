@@ -3,6 +3,7 @@
     title: SENTENCE                 the first line of every story
     tick [N]                        N ticks, 1 if not said
     power                           a power cycle
+    reading [FIELD VALUE]..         a health reading: spare N (0 to 100), media N, controller N
     [host H] CALL [FIELD VALUE]..   a call by host H, 1 to 4; host 1 if not said
     bad FORM                        a bad record
     raw BYTES                       a record of these bytes, filled with zeros to 544
@@ -17,7 +18,7 @@ A # begins a comment. Numbers are decimal, or hex with 0x. BYTES is one or more 
 many times (0a*12), text ("alpha"), and the word zeros, which is no byte: what is short is filled with zeros.
 
 CALL is one of these, with its fields, in any order; a field not said is 0 or empty:
-    mask  get-threshold  info  start  security  freeze
+    mask  get-health  get-threshold  info  start  security  freeze
     send      context N  offset N  length N  and the piece: data BYTES, or an image and piece A..B of it
     send-all  context N  offset N  and data BYTES or an image, in many Sends: pieces N or N,N,.. bytes long, again and again
     finish    context N  flag N  reserved BYTES
@@ -38,8 +39,8 @@ zero-version (in all records, or at one) or bad-sum. But for bad-sum the sums ar
 one is: and KIND, and and-at I (its record, the first if not said), KIND being any of them but bad-size.
 Or it is: image made version N payload BYTES, what is made from a payload of up to 14336 bytes, cut into as many records as it takes.
 
-FORM is kind N, host N, length N or padding [byte B], on what is else a Start by host 1; or tick [byte B], power [byte B].
-bad and raw take times N. A line makes at most 100000 records.
+FORM is kind N, host N, length N or padding [byte B], on what is else a Start by host 1; or tick [byte B], power [byte B],
+reading [byte B] or reading spare N. bad, raw and reading take times N. A line makes at most 100000 records.
 """
 import re
 
@@ -59,6 +60,7 @@ EVERY_CALL = {"revision": (0, HALF), "bytes": (0, records.REQUEST_MOST), "times"
 CONTEXT = {"context": (0, WHOLE)}
 CALLS = {
     "mask": (records.MASK, {}),
+    "get-health": (records.GET_HEALTH, {}),
     "get-threshold": (records.GET_THRESHOLD, {}),
     "info": (records.INFO, {}),
     "start": (records.START, {}),
@@ -78,7 +80,8 @@ CALLS = {
 }
 BAD = {"kind": {"kind": (0, BYTE)}, "host": {"host": (0, BYTE)}, "length": {"length": (0, HALF)},
        "padding": {"byte": (8, records.RECORD - 1)}, "tick": {"byte": (1, records.RECORD - 1)},
-       "power": {"byte": (1, records.RECORD - 1)}}
+       "power": {"byte": (1, records.RECORD - 1)}, "reading": {"byte": (1, records.RECORD - 1), "spare": (0, BYTE)}}
+READING = {"spare": (0, records.SPARE_MOST), "media": (0, HALF), "controller": (0, HALF)}
 IMAGES = {"good": None, "made": None, "bad-size": "size", "bad-number": "number", "bad-count": "count", "bad-version": "version",
           "zero-version": "zero-version", "bad-sum": "sum"}
 TIMES = {"times": (1, 100000)}
@@ -328,11 +331,19 @@ def bad_step(words):
         record = records.call(1, records.START, length=fields["length"])
     else:
         if form != "padding":
-            record = records.event(records.TICK if form == "tick" else records.POWER)
-        record = records.poke(record, fields.get("byte", records.RECORD - 1), 1)
+            record = records.event({"tick": records.TICK, "power": records.POWER, "reading": records.READING}[form])
+        if "spare" in fields:
+            record = records.poke(record, records.READING_AT, fields["spare"])
+        if "spare" not in fields or "byte" in fields:
+            record = records.poke(record, fields.get("byte", records.RECORD - 1), 1)
     if records.why_bad(record) is None:
         raise Wrong(f"{' '.join(words)} is not bad")
     return repeated([record], fields)
+
+
+def reading_step(words):
+    fields = fields_of(words, {**READING, **TIMES})
+    return repeated([records.reading(*(fields.get(name, 0) for name in READING))], fields)
 
 
 def raw_step(words):
@@ -360,7 +371,7 @@ def expected(words):
 def step(words):
     """The records of one line, and what the line says of their answers."""
     verb, rest = words[0], words[1:]
-    if "=>" in rest and verb not in ("tick", "power", "bad", "short", "end"):
+    if "=>" in rest and verb not in ("tick", "power", "reading", "bad", "short", "end"):
         at = rest.index("=>")
         return step([verb] + rest[:at])[0], expected(rest[at + 1:])
     if verb == "tick":
@@ -371,6 +382,8 @@ def step(words):
         if rest:
             raise Wrong("power stands alone on its line")
         return [records.event(records.POWER)], None
+    if verb == "reading":
+        return reading_step(rest), None
     if verb == "bad":
         return bad_step(rest), "bad"
     if verb == "raw":
@@ -382,7 +395,7 @@ def step(words):
         host = a_number(rest[0], "host", 1, 4)
         verb, rest = rest[1], rest[2:]
     if verb not in CALLS:
-        raise Wrong(f"there is no step '{verb}'; there are: tick, power, bad, raw, short, end, host and {', '.join(CALLS)}")
+        raise Wrong(f"there is no step '{verb}'; there are: tick, power, reading, bad, raw, short, end, host and {', '.join(CALLS)}")
     return call_step(host, verb, rest), None
 
 

@@ -23,6 +23,13 @@ bad tick byte 543
 bad tick byte 300
 bad power byte 1
 bad power byte 543
+# Readings: every byte but the five is zero, and the spare is not over 100.
+bad reading byte 1
+bad reading byte 7
+bad reading byte 13
+bad reading byte 543
+bad reading spare 101
+bad reading spare 255
 # A record of zeros, and one of 544 bytes ff.
 raw zeros                       => bad
 raw ff*544                      => bad

@@ -7,7 +7,7 @@ title: every host gets every status that a log can reach, each another number of
 #   host 2     21 18 0 14 0 0 0 10 0 0  6  2
 #   host 3     23 19 0 15 0 0 0 11 0 0  7  3
 #   host 4     24 20 0 16 0 0 0 12 0 0  8  4
-#   function 0 25, ticks 26, power 27, bad 28, short 1
+#   function 0 25, ticks 26, power 27, readings 29, bad 28, short 1
 
 # 10: nothing is enabled, so there is nothing to unlock.
 host 1 unlock current "alpha" times 5           => 10
@@ -42,13 +42,14 @@ host 2 get-threshold times 21                   => 0
 host 3 get-threshold revision 1 times 23        => 0
 host 4 info times 24                            => 0
 # Function 0 has no status, whoever asks and at whatever revision.
-host 1 mask times 10                            => answer 05 f0 fb 00
-host 2 mask revision 1 times 8                  => answer 05 00 00 00
+host 1 mask times 10                            => answer 07 f0 fb 00
+host 2 mask revision 1 times 8                  => answer 07 00 00 00
 host 3 mask revision 3 times 6                  => answer 00*4
-host 4 mask bytes 536                           => answer 05 f0 fb 00
+host 4 mask bytes 536                           => answer 07 f0 fb 00
 # Events, of no host. A power cycle's record is its kind and zeros.
 tick 26
 raw 03 times 27
+reading spare 1 media 2 controller 3 times 29
 # Calls by every host that are bad, and so no calls at all.
 raw 01 01 02 00 0d 00*538 01 times 7            => bad
 raw 01 02 02 00 0d 00*538 01 times 7            => bad

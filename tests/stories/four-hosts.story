@@ -1,6 +1,6 @@
 title: four hosts at one module: 7 counts as 7 whatever its extended number, by the host that asks and not by the one that loads, and no tail
 
-#   status      0 1 2 3 4 5 6 7 8 9 10 11       function 0 1, ticks 16, power 1, bad 2, short 0
+#   status      0 1 2 3 4 5 6 7 8 9 10 11       function 0 1, ticks 16, power 1, readings 0, bad 2, short 0
 #   host 1      4 0 0 0 0 0 0 1 0 0  0  0
 #   host 2      0 0 0 0 0 0 0 5 0 0  0  0
 #   host 3      5 0 0 0 0 0 0 2 0 0  0  0
@@ -31,5 +31,5 @@ power
 host 3 query context 2          => 7/1
 host 2 query context 2          => 7/1
 host 1 info times 2             => 0
-host 4 mask                     => answer 05 f0 fb 00
+host 4 mask                     => answer 07 f0 fb 00
 end idle 2

@@ -4,6 +4,7 @@ title: every function index at revisions 0 to 3, with the request that revision 
 
 # Revision 0: nothing is served.
 call function 0 revision 0      => answer 00*4
+call function 1 revision 0      => answer 01 00*3
 call function 2 revision 0      => answer 01 00*3
 call function 12 revision 0     => answer 01 00*3
 call function 13 revision 0     => answer 01 00*3
@@ -17,8 +18,9 @@ call function 21 revision 0 request "alpha" 00*27                               
 call function 22 revision 0 request "alpha" 00*27                               => answer 01 00*3
 call function 23 revision 0     => answer 01 00*3
 
-# Revision 1: 0 and 2 are served.
-call function 0 revision 1      => answer 05 00*3
+# Revision 1: 0, 1 and 2 are served.
+call function 0 revision 1      => answer 07 00*3
+call function 1 revision 1      => answer 00*4 1a 02 00*126
 call function 2 revision 1      => 0
 call function 12 revision 1     => answer 01 00*3
 call function 13 revision 1     => answer 01 00*3
@@ -34,6 +36,7 @@ call function 23 revision 1     => answer 01 00*3
 
 # Revision 3: nothing is served.
 call function 0 revision 3      => answer 00*4
+call function 1 revision 3      => answer 01 00*3
 call function 2 revision 3      => answer 01 00*3
 call function 12 revision 3     => answer 01 00*3
 call function 13 revision 3     => answer 01 00*3
@@ -48,7 +51,6 @@ call function 22 revision 3 request "alpha" 00*27                               
 call function 23 revision 3     => answer 01 00*3
 
 # Revision 2 serves all that are served. These are not among them: labels, error injection, pass-through, erase and others.
-call function 1 revision 2      => answer 01 00*3
 call function 3 revision 2      => answer 01 00*3
 call function 4 revision 2      => answer 01 00*3
 call function 5 revision 2      => answer 01 00*3
@@ -89,6 +91,7 @@ call function 13 revision 32770 => 1
 call function 13 revision 65535 => 1
 
 # Revision 2 at last: all functions once, each accepted but one.
+get-health                      => answer 00*4 1a 02 00*126
 get-threshold                   => answer 00*12
 set-threshold enable 7 spare 50 media 0x8000 controller 12                      => 0
 get-threshold                   => answer 00*4 07 00 32 00 80 0c 00 00

@@ -1,6 +1,8 @@
 title: a request one byte too short or too long gives 3 in the function's length, and comes before the function's own checks
 
 # Functions with no request bytes.
+call function 1 request 00      => answer 03 00*131
+call function 1 revision 1 request 00           => answer 03 00*131
 call function 2 request 00      => answer 03 00*11
 call function 2 revision 1 request 00           => answer 03 00*11
 call function 12 request 00     => answer 03 00*43
