@@ -1,7 +1,7 @@
 """Random logs that lead deep: made(SEED, N) is log N of a seed, always the same.
 
 Whole transfers of 1 to 128 records in odd pieces, good, damaged and damaged twice, which the end names; hosts with right, old and guessed contexts; 7, 8 and 9
-ticks; power cycles in between; passphrases up to and past the limit; freezes; thresholds; bad and short records.
+ticks; power cycles in between; passphrases up to and past the limit; freezes; thresholds and readings on both sides of them; bad and short records.
 """
 import random
 
@@ -113,7 +113,7 @@ class Maker:
         elif kind == 15:
             self.call(host, records.SECURITY)
         elif kind == 16:
-            self.thresholds()
+            self.pick(self.thresholds, self.health)()
         elif kind < 20:
             self.bad()
         elif kind == 20:
@@ -303,6 +303,20 @@ class Maker:
 
     # ---- The rest ----
 
+    def word(self):
+        """A temperature: few of both signs, 0 and 8000h among them, or any."""
+        return self.pick(0, 0x8000, 1, 2, 0x8001, 0x8002, 0x7FFF, 0xFFFF, self.chance.getrandbits(16))
+
+    def health(self):
+        """Thresholds, readings and what they trip."""
+        host = self.host()
+        for _ in range(self.pick(1, 2, 4)):
+            if self.one_in(2):
+                self.call(host, records.SET_THRESHOLD, records.set_threshold(self.chance.randrange(8), self.pick(0, 1, 2, 50, 100),
+                                                                             self.word(), self.word()))
+            self.log.append(records.reading(self.pick(0, 1, 2, 49, 50, 99, 100), self.word(), self.word()))
+            self.call(host, records.GET_HEALTH, b"", self.pick(1, 2))
+
     def thresholds(self):
         word = self.pick(0, 1, 7, 0xFFFF, 0x8000, 0x7FFF, self.chance.getrandbits(16))
         spare = self.pick(0, 1, 50, 99, 100, 100, 101, 101, 128, 255, self.chance.randrange(256))
@@ -329,7 +343,7 @@ class Maker:
     def bad(self):
         """A record that would do something, but for one byte or two."""
         record = self.pick(records.call(1, records.START), records.call(2, records.FINISH, records.finish(self.contexts, 1)),
-                           records.event(records.TICK), records.event(records.POWER),
+                           records.event(records.TICK), records.event(records.POWER), records.reading(100, 1, 0x8001),
                            records.call(1, records.SEND, records.send(self.contexts, self.received, b"bad")))
         kind = self.chance.randrange(6)
         if kind == 0:
@@ -339,7 +353,7 @@ class Maker:
         elif kind == 2:
             record = record[:6] + records.le(self.pick(537, 538, 544, 1024, 0xFFFF), 2) + record[8:]
         elif kind == 3:
-            record = records.poke(record, self.pick(543, 542, 100, 300), self.pick(1, 128, 255))
+            record = records.poke(record, self.pick(543, 542, 100, 300, 13, 8), self.pick(1, 101, 128, 255))
         elif kind == 4:
             record = self.some_bytes(records.RECORD)
         else:
@@ -354,7 +368,7 @@ class Maker:
         elif kind < 15:
             self.security()
         elif kind == 15:
-            self.thresholds()
+            self.pick(self.thresholds, self.health)()
         elif kind == 16:
             self.power()
         elif kind == 17:
