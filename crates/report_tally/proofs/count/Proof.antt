@@ -54,14 +54,14 @@ a-reading : tie.Need-returns-6
 a-reading c =
     let told = c .before in
     let a = told .before .before .before .before .args in
-    as-told (tallyOf (a .grid .now) (a .counting .counts) (a .counting .full)) (a .reply) (Health _ _ _) (told .entry2 .given .1)
+    as-told (tallyOf (a .grid .now) (a .counting .counts) (a .counting .full)) (a .reply) (Health _ _ _) (told .enum-told3 .given .1)
     (beside (a .grid .now) (a .counting) measured (told .before .before .before .if1 .left) refl (c .count-reading .ensures))
 
 a-bad : tie.Need-returns-7
 a-bad c =
     let told = c .before in
     let a = told .before .before .before .before .args in
-    as-told (tallyOf (a .grid .now) (a .counting .counts) (a .counting .full)) (a .reply) Bad (told .enum-told3 .given .1)
+    as-told (tallyOf (a .grid .now) (a .counting .counts) (a .counting .full)) (a .reply) Bad (told .enum-told4 .given .1)
     (beside (a .grid .now) (a .counting) bad (told .before .before .before .if1 .left) refl (c .count-bad .ensures))
 
 -- by search: the entry's fields and what it is told to be, and what each count requires
