@@ -6,7 +6,7 @@ use native.Mathlib.Omega.{arith}
 use lib.{Dec.leb, ListN.{getD, set}}
 use borrow.Author.Tests.{leb-true, leb-false, le-leb, lt-leb}
 use Rattle.rules.{specs.Tests.{if_then_else_, _≤?_}, specs.Record.Module, specs.Log.{recordAt, recordsIn, shortTail}, specs.Replay.{replayStart, moduleAfter}}
-use Rattle.rules.specs.Report.{Report, Counted, answered, masked, ticked, powered, bad, recordCounted, raisedAt, raised, raisedShort, reportAfter, withTail, withLog, largestCount, rowFits, gridFits, countsFit, fits, fedIf, feed}
+use Rattle.rules.specs.Report.{Report, Counted, answered, masked, ticked, powered, measured, bad, recordCounted, raisedAt, raised, raisedShort, reportAfter, withTail, withLog, largestCount, rowFits, gridFits, countsFit, fits, fedIf, feed}
 use Rattle.rules.specs.declared.Counts.{Counts}
 use Rattle.report_tally.specs.Tally.{Tally, countOf, talliedIf, tallied, talliedTail}
 use Rattle.report_log.specs.Parts.{tallyAfter, begun, fedBy, FedByTally}
@@ -52,26 +52,18 @@ grid-raised (row ∷ grid) zero status = ap (λ (b : Bool). b && gridFits grid) 
 grid-raised (row ∷ grid) (suc host) status =
     ap (λ (b : Bool). rowFits row && b) (grid-raised grid host status) ∙ regrouped (rowFits row) (gridFits grid) (not (largestCount ≤? getD (getD grid host []) status 0))
 
--- the five counts, of which one is raised: what stands before it and behind it
-record FiveRaised (a b d e f room : Bool) : Type 0 where
-  first : ((a && room) && b && d && e && f) ≡ ((a && b && d && e && f) && room)
-  second : (a && (b && room) && d && e && f) ≡ ((a && b && d && e && f) && room)
-  third : (a && b && (d && room) && e && f) ≡ ((a && b && d && e && f) && room)
-  fourth : (a && b && d && (e && room) && f) ≡ ((a && b && d && e && f) && room)
-  fifth : (a && b && d && e && (f && room)) ≡ ((a && b && d && e && f) && room)
+-- one count among others is raised: all fit where all did before, and that one had room
+record Up (room was new : Bool) : Type 0 where
+  is : new ≡ (was && room)
 
-five-raised : (a b d e f room : Bool) → FiveRaised a b d e f room
-five-raised false b d e f room = record { first = refl; second = refl; third = refl; fourth = refl; fifth = refl }
-five-raised true false d e f true = record { first = refl; second = refl; third = refl; fourth = refl; fifth = refl }
-five-raised true false d e f false = record { first = refl; second = refl; third = refl; fourth = refl; fifth = refl }
-five-raised true true false e f true = record { first = refl; second = refl; third = refl; fourth = refl; fifth = refl }
-five-raised true true false e f false = record { first = refl; second = refl; third = refl; fourth = refl; fifth = refl }
-five-raised true true true false f true = record { first = refl; second = refl; third = refl; fourth = refl; fifth = refl }
-five-raised true true true false f false = record { first = refl; second = refl; third = refl; fourth = refl; fifth = refl }
-five-raised true true true true false true = record { first = refl; second = refl; third = refl; fourth = refl; fifth = refl }
-five-raised true true true true false false = record { first = refl; second = refl; third = refl; fourth = refl; fifth = refl }
-five-raised true true true true true true = record { first = refl; second = refl; third = refl; fourth = refl; fifth = refl }
-five-raised true true true true true false = record { first = refl; second = refl; third = refl; fourth = refl; fifth = refl }
+up : (count : ℕ) → Up (not (largestCount ≤? count)) (count ≤? largestCount) (count + 1 ≤? largestCount)
+up count = record { is = next-fits count }
+
+past : {room was new : Bool} (next : Bool) → Up room was new → Up room (was && next) (new && next)
+past {room} {was} next u = record { is = ap (λ (x : Bool). x && next) (u .is) ∙ swapped was room next }
+
+behind : {room was new : Bool} (first : Bool) → Up room was new → Up room (first && was) (first && new)
+behind {room} {was} first u = record { is = ap (λ (x : Bool). first && x) (u .is) ∙ regrouped first was room }
 
 module _ (q : Report) where
   abbrev c : Counts
@@ -80,24 +72,21 @@ module _ (q : Report) where
   abbrev small : ℕ → Bool
   small count = count ≤? largestCount
 
-  abbrev has-room : ℕ → Bool
-  has-room count = not (largestCount ≤? count)
-
-  abbrev five : (room : Bool) → FiveRaised (small (c .masks)) (small (c .ticks)) (small (c .powers)) (small (c .bads)) (small (c .shorts)) room
-  five room = five-raised (small (c .masks)) (small (c .ticks)) (small (c .powers)) (small (c .bads)) (small (c .shorts)) room
-
-  behind : (room : Bool) {b : Bool} → b ≡ (countsFit c && room) → (gridFits (q .grid) && b) ≡ ((gridFits (q .grid) && countsFit c) && room)
-  behind room e = ap (λ (x : Bool). gridFits (q .grid) && x) e ∙ regrouped (gridFits (q .grid)) (countsFit c) room
+  -- a count that stands before the short tails, in the whole report
+  whole : {room was new : Bool} → Up room was new
+      → (gridFits (q .grid) && (new && small (c .shorts))) ≡ ((gridFits (q .grid) && (was && small (c .shorts))) && room)
+  whole u = behind (gridFits (q .grid)) (past (small (c .shorts)) u) .is
 
   pub fits-raised : (x : Counted) → fits (raised x q) ≡ (fits q && not (largestCount ≤? countOf x q))
   unfolding fits
   fits-raised (answered host status) =
       ap (λ (b : Bool). b && countsFit c) (grid-raised (q .grid) (host - 1) status)
       ∙ swapped (gridFits (q .grid)) (not (largestCount ≤? getD (getD (q .grid) (host - 1) []) status 0)) (countsFit c)
-  fits-raised masked = behind (has-room (c .masks)) (ap (λ (b : Bool). b && small (c .ticks) && small (c .powers) && small (c .bads) && small (c .shorts)) (next-fits (c .masks)) ∙ five (has-room (c .masks)) .first)
-  fits-raised ticked = behind (has-room (c .ticks)) (ap (λ (b : Bool). small (c .masks) && b && small (c .powers) && small (c .bads) && small (c .shorts)) (next-fits (c .ticks)) ∙ five (has-room (c .ticks)) .second)
-  fits-raised powered = behind (has-room (c .powers)) (ap (λ (b : Bool). small (c .masks) && small (c .ticks) && b && small (c .bads) && small (c .shorts)) (next-fits (c .powers)) ∙ five (has-room (c .powers)) .third)
-  fits-raised bad = behind (has-room (c .bads)) (ap (λ (b : Bool). small (c .masks) && small (c .ticks) && small (c .powers) && b && small (c .shorts)) (next-fits (c .bads)) ∙ five (has-room (c .bads)) .fourth)
+  fits-raised masked = whole (past (small (c .bads)) (past (small (c .readings)) (past (small (c .powers)) (past (small (c .ticks)) (up (c .masks))))))
+  fits-raised ticked = whole (past (small (c .bads)) (past (small (c .readings)) (past (small (c .powers)) (behind (small (c .masks)) (up (c .ticks))))))
+  fits-raised powered = whole (past (small (c .bads)) (past (small (c .readings)) (behind (small (c .masks) && small (c .ticks)) (up (c .powers)))))
+  fits-raised measured = whole (past (small (c .bads)) (behind (small (c .masks) && small (c .ticks) && small (c .powers)) (up (c .readings))))
+  fits-raised bad = whole (behind (small (c .masks) && small (c .ticks) && small (c .powers) && small (c .readings)) (up (c .bads)))
 
   last : (a : Bool) → a ≡ (a && true)
   last true = refl
@@ -105,7 +94,8 @@ module _ (q : Report) where
 
   pub fits-tail : (short : Bool) → fits (withTail short q) ≡ (fits q && not (if short then largestCount ≤? c .shorts else false))
   unfolding fits
-  fits-tail true = behind (has-room (c .shorts)) (ap (λ (b : Bool). small (c .masks) && small (c .ticks) && small (c .powers) && small (c .bads) && b) (next-fits (c .shorts)) ∙ five (has-room (c .shorts)) .fifth)
+  fits-tail true =
+      behind (gridFits (q .grid)) (behind (small (c .masks) && small (c .ticks) && small (c .powers) && small (c .readings) && small (c .bads)) (up (c .shorts))) .is
   fits-tail false = last (gridFits (q .grid) && countsFit c)
 
 -- a tally and the report that is counted without a largest count: full where that does not fit, else the same

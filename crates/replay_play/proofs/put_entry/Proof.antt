@@ -31,14 +31,14 @@ a-reading c =
     let w = c .before .before .put-field3 .ensures in
     let told = c .before .before .before .before .before in
     let a = told .before .before .before .args in
-    as-told (a .number) (a .reply) (Health _ _ _) (told .entry2 .given .1) (omega (arith, w .within)) (w .wrote)
+    as-told (a .number) (a .reply) (Health _ _ _) (told .enum-told3 .given .1) (omega (arith, w .within)) (w .wrote)
 
 bad : tie.Need-returns-5
 bad c =
     let w = c .before .before .put-field4 .ensures in
     let told = c .before .before .before .before .before in
     let a = told .before .before .before .args in
-    as-told (a .number) (a .reply) Bad (told .enum-told3 .given .1) (omega (arith, w .within)) (w .wrote)
+    as-told (a .number) (a .reply) Bad (told .enum-told4 .given .1) (omega (arith, w .within)) (w .wrote)
 
 -- what the search closes: the entry's fields, the texts' lengths and the room of each line, and the buffer's length at the end
 pub put-entry-spec : {M : Type 1} → statement M
@@ -57,6 +57,7 @@ put-entry-spec =
     (λ c. search needs)
     (λ c. search needs)
     (λ c κs. search needs)
+    (λ c. search needs)
     (λ c. search needs)
     (λ c κs. search needs)
     (λ c. search needs)
