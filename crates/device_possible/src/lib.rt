@@ -2,7 +2,7 @@
 ghost use mathlib.Core.Path.{_≡_};
 ghost use lib.ListN.{length};
 ghost use Rattle.rules.specs.Bytes.{zeros?};
-ghost use Rattle.rules.specs.Adopt.{possibleBefore};
+ghost use Rattle.rules.specs.Adopt.{noReading, possibleBefore};
 ghost use Rattle.rules.specs.Record.{possible, possibleNumbers, possibleFault, possibleTransfer, possibleSecurity, possibleThresholds, possibleReading};
 use rules::AREA_SIZE;
 use rules::ATTEMPT_LIMIT;
@@ -82,7 +82,13 @@ pub fn possible(d: Device) -> bool
         & possible_reading(d.reading)
 }
 
-// Whether a record was possible before faults were kept.
+fn no_reading(h: Reading) -> bool
+    ensures { λ r. ⌜ r ≡ noReading h ⌝ }
+{
+    (h.spare == 0) & (h.media == 0) & (h.controller == 0)
+}
+
+// Whether a record was possible before faults and readings were kept.
 pub fn possible_before(d: Device) -> bool
     ensures { λ r. ⌜ r ≡ possibleBefore d ⌝ }
 {
@@ -91,5 +97,5 @@ pub fn possible_before(d: Device) -> bool
     (possible_numbers(t) & no_fault)
         & possible_security(d.security)
         & possible_thresholds(d.thresholds)
-        & possible_reading(d.reading)
+        & no_reading(d.reading)
 }

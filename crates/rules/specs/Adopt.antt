@@ -4,16 +4,20 @@
 use mathlib.Core.{Path._≡_, Logic._↔_, Bool.{Bool, true, false, _&&_, _||_}}
 use Rattle.rules.specs.Tests.{if_then_else_, _=?_}
 use Rattle.rules.specs.With.{_with-phase_, _with-received_, _with-transfer_}
-use Rattle.rules.specs.Record.{given, possible, possibleNumbers, possibleSecurity, possibleThresholds, possibleReading}
-use Rattle.rules.specs.declared.{Phase.the-variants.{Idle, Failed}, Device.Device}
+use Rattle.rules.specs.Record.{given, possible, possibleNumbers, possibleSecurity, possibleThresholds}
+use Rattle.rules.specs.declared.{Phase.the-variants.{Idle, Failed}, Device.Device, Reading.Reading}
 
--- possible before T-03: as document 01 says, and with no fault kept
+-- no reading kept: T-04's came later still
+abbrev pub noReading : Reading → Bool
+noReading r = r .spare =? 0 && r .media =? 0 && r .controller =? 0
+
+-- possible before T-03: as document 01 says, with no fault kept and no reading
 unfoldable pub possibleBefore : Device → Bool
 possibleBefore d =
     (possibleNumbers (d .transfer) && (d .transfer .reason =? 0 && d .transfer .faulty =? 0))
     && possibleSecurity (d .security)
     && possibleThresholds (d .thresholds)
-    && possibleReading (d .reading)
+    && noReading (d .reading)
 
 abbrev pub adoptable : Device → Bool
 adoptable d = possible d || possibleBefore d

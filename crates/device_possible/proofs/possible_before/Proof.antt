@@ -1,4 +1,4 @@
--- `device_possible::possible_before` meets its contract. It is the four parts of the record, each possible, and no fault.
+-- `device_possible::possible_before` meets its contract. It is the four parts of the record, each possible, with no fault and no reading.
 -- Assumes nothing.
 use Rattle.rules.specs.Adopt.{possibleBefore}
 use borrow.Author.Needs.{needs}
@@ -7,9 +7,9 @@ use Rattle.device_possible.proofs.possible_before.Tie as tie
 
 returns : tie.Need-returns
 unfolding possibleBefore
-returns c = simp (c .before .before .before .possible-numbers .ensures, c .before .before .possible-security .ensures, c .before .possible-thresholds .ensures, c .possible-reading .ensures)
+returns c = simp (c .before .before .before .possible-numbers .ensures, c .before .before .possible-security .ensures, c .before .possible-thresholds .ensures, c .no-reading .ensures)
 
--- by search: possible-numbers-requires, possible-security-requires, possible-thresholds-requires, possible-reading-requires
+-- by search: possible-numbers-requires, possible-security-requires, possible-thresholds-requires, no-reading-requires
 pub possible-before-spec : {M : Type 1} → statement M
 possible-before-spec =
     tie.close

@@ -1,9 +1,10 @@
 -- Document 02, T-03: a record that was possible before is possible still, but in Failed; and taken over it is possible.
 -- Assumes nothing.
 use mathlib.Core.{Path.{_≡_, refl, sym, _∙_, ap, subst}, Logic._↔_, Bool.{Bool, true, false, not, _&&_, _||_}}
+use Prim.Native.Nat.{ℕ}
 use native.Mathlib.Omega.{arith}
-use Rattle.rules.specs.{Tests.{if_then_else_, _=?_}, With.{_with-phase_, _with-received_}}
-use Rattle.rules.specs.{Record.{_is_, given, possible, possibleNumbers, possibleFault, possibleTransfer, possibleSecurity, possibleThresholds, possibleReading}, Adopt.{possibleBefore, adoptable, idleAgain, adopted, Adopting}}
+use Rattle.rules.specs.{Tests.{if_then_else_, _=?_, _≤?_}, With.{_with-phase_, _with-received_}}
+use Rattle.rules.specs.{Record.{_is_, given, possible, possibleNumbers, possibleFault, possibleTransfer, possibleSecurity, possibleThresholds, possibleReading}, Adopt.{possibleBefore, adoptable, idleAgain, adopted, Adopting, noReading}}
 use Rattle.rules.specs.{declared.Phase.Phase, declared.Phase.the-variants.{Idle, Receiving, Verifying, Staged, Failed}, declared.Transfer.Transfer, declared.Device.Device}
 use borrow.Author.Tests.{eqb-true, lt-leb}
 use Rattle.rules.proofs.{page.Choice.{and-true, and-3, if-both, and-4}, page.Facts.{never, is-phase}, page.Keeps.{PhaseOk, tests, tested, faultTest, fault-tested}}
@@ -18,13 +19,15 @@ record Before (d : Device) : Type 0 where
   read : possibleReading (d .reading) ≡ true
 
 before : (d : Device) → possibleBefore d ≡ true → Before d
-unfolding possibleBefore
+unfolding possibleBefore possibleReading
 before d e =
     let t = d .transfer in
-    let all = and-4 (possibleNumbers t && (t .reason =? 0 && t .faulty =? 0)) (possibleSecurity (d .security)) (possibleThresholds (d .thresholds)) (possibleReading (d .reading)) e in
+    let all = and-4 (possibleNumbers t && (t .reason =? 0 && t .faulty =? 0)) (possibleSecurity (d .security)) (possibleThresholds (d .thresholds)) (noReading (d .reading)) e in
     let both = and-true (possibleNumbers t) (t .reason =? 0 && t .faulty =? 0) (all .0) in
     let none = and-true (t .reason =? 0) (t .faulty =? 0) (both .1) in
-    record { numbers = both .0; no-reason = eqb-true (t .reason) 0 (none .0); no-record = eqb-true (t .faulty) 0 (none .1); secured = all .1; limited = all .2; read = all .3 }
+    let r = d .reading in
+    let spare = eqb-true (r .spare) 0 (and-3 (r .spare =? 0) (r .media =? 0) (r .controller =? 0) (all .3) .0) in
+    record { numbers = both .0; no-reason = eqb-true (t .reason) 0 (none .0); no-record = eqb-true (t .faulty) 0 (none .1); secured = all .1; limited = all .2; read = ap (λ (x : ℕ). x ≤? 100) spare }
 
 -- it is possible where it has a fault that its phase allows: none, but in Failed, where it must have one
 by-fault : (d : Device) → Before d → possible d ≡ possibleFault (d .transfer)
