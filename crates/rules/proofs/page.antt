@@ -32,3 +32,4 @@ pub mod NoneAbove
 pub mod Sums
 pub mod Adopting
 pub mod Health
+pub mod LastReading

@@ -7,7 +7,7 @@ use Rattle.rules.specs.With.{_with-phase_, _with-received_, _with-transf
 use Rattle.rules.specs.Record.{given, possible, possibleNumbers, possibleSecurity, possibleThresholds}
 use Rattle.rules.specs.declared.{Phase.the-variants.{Idle, Failed}, Device.Device, Reading.Reading}
 
--- no reading kept: T-04's came later still
+-- no reading kept: T-04 came after T-03
 abbrev pub noReading : Reading → Bool
 noReading r = r .spare =? 0 && r .media =? 0 && r .controller =? 0
 

@@ -7,10 +7,10 @@ use Rattle.rules.specs.Numbers.{attemptLimit}
 use Rattle.rules.specs.Record.{Module}
 use Rattle.rules.specs.Refusals.{verdict}
 use Rattle.rules.specs.Security.{SecurityCall, GetSecurityState, SetPassphrase, Disable, Unlock, Freeze, securityChecks}
-use Rattle.rules.specs.Module.{Event, power, step}
+use Rattle.rules.specs.Module.{Event, call, tick, power, reading, step}
 use Rattle.rules.specs.Transfers.{machine, Kind, Started, Sent, Finished, Ticked, Powered, Other, eventKind}
 use Rattle.rules.specs.Demand3.{stagedWith, Sound}
-use Rattle.rules.specs.declared.{Refusal.the-variants.Status, Verdict.Verdict, Verdict.the-variants.{Accepted, Refused}, Security.Security}
+use Rattle.rules.specs.declared.{Refusal.the-variants.Status, Verdict.Verdict, Verdict.the-variants.{Accepted, Refused}, Security.Security, Reading.Reading}
 
 -- no accepted Send
 abbrev pub NoSend : Kind → Type 0
@@ -24,6 +24,18 @@ NoSend Other = Unit {0}
 -- "The area's bytes stay": from any record and area no event but an accepted Send changes the area.
 abbrev pub AreaStays : Type 0
 AreaStays = (m : Module) (event : Event) → NoSend (eventKind event (machine .answer m event)) → step m event .after .area ≡ m .area
+
+-- the reading after an event, by the event's verdict: that of an accepted reading, else the last one
+abbrev pub lastReading : Module → Event → Verdict → Reading
+lastReading m (call host revision index request answer) verdict = m .device .reading
+lastReading m tick verdict = m .device .reading
+lastReading m power verdict = m .device .reading
+lastReading m (reading new) Accepted = new
+lastReading m (reading new) (Refused refusal) = m .device .reading
+
+-- Document 02, T-04: "the device record keeps the last one", and "power cycles keep the last one": no call, tick or power cycle changes the reading.
+abbrev pub LastKept : Type 0
+LastKept = (m : Module) (event : Event) → step m event .after .device .reading ≡ lastReading m event (step m event .reply .verdict)
 
 -- what a frozen module answers
 abbrev pub whileFrozen : SecurityCall → Verdict

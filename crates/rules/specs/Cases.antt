@@ -1,24 +1,29 @@
--- Document 01, "Cases for the bench": those marked P, as rows of one list; and document 02, T-04: function 1. That every row holds is the one claim of proofs/Claim.antt.
+-- Document 01, "Cases for the bench": those marked P, as rows of one list; and document 02, T-04: function 1 and readings. That every row holds is the one claim
+-- of proofs/page/Claim.antt.
 -- Assumes nothing.
 use Prim.Native.Nat.{ℕ, zero, suc, _+_}
-use mathlib.Core.{Bool.{Bool, true, _&&_}, List.{List, [], _∷_, _++_}}
+use mathlib.Core.{Bool.{Bool, true, false, not, _&&_}, List.{List, [], _∷_, _++_}}
 use lib.ListN.{length, drop, replicate}
 use Rattle.rules.specs.Tests.{if_then_else_, _=?_}
 use Rattle.rules.specs.Bytes.{le, zeros, same?}
 use Rattle.rules.specs.Numbers.{areaSize}
 use Rattle.rules.specs.With.{_with-transfer_, _with-phase_, _with-contexts_, _with-received_}
 use Rattle.rules.specs.Record.{_is_, fresh, Module, moduleOf}
+use Rattle.rules.specs.Refusals.{refused?}
 use Rattle.rules.specs.Health.{newReading}
-use Rattle.rules.specs.Module.{Result, Event, call, tick, reading, step}
+use Rattle.rules.specs.Module.{Result, Event, call, tick, power, reading, step}
 use Rattle.rules.specs.Replay.{replayStart}
-use Rattle.rules.specs.declared.Phase.the-variants.{Receiving, Staged, Failed}
+use Rattle.rules.specs.declared.{Phase.the-variants.{Receiving, Staged, Failed}, Refusal.the-variants.{R, Status}, Verdict.Verdict, Verdict.the-variants.{Accepted, Refused}, Reading.Reading}
 
--- What a case does: it makes a call and expects these answer bytes, lets ticks pass, or takes a health reading.
+-- What a case does: it makes a call and expects these answer bytes, lets ticks pass or power cycle, or brings a health reading, which is taken, or gives this R
+-- number.
 infix 68 _gets_
 pub data Deed : Type 0 where
   _gets_ : Event → List ℕ → Deed
   passing : (ticks : ℕ) → Deed
-  measuring : (spare media controller : ℕ) → Deed
+  powering : Deed
+  taken : (new : Reading) → Deed
+  gives-R : (number : ℕ) (new : Reading) → Deed
 
 -- A row: the module that the case begins with; what is done; and what the case says of record and area in the end.
 pub record Case : Type 0 where
@@ -39,11 +44,19 @@ abbrev after-ticks : ℕ → Module → Module
 after-ticks zero m = m
 after-ticks (suc ticks) m = after-ticks ticks (step m tick .after)
 
+-- the verdict is this R number
+abbrev by-R : (number : ℕ) → Verdict → Bool
+by-R number Accepted = false
+by-R number (Refused (R given)) = given =? number
+by-R number (Refused (Status status ext)) = false
+
 abbrev holdsFrom : Module → List Deed → (Module → Bool) → Bool
 holdsFrom m [] ends = ends m
 holdsFrom m ((event gets expected) ∷ deeds) ends = as-expected (step m event) expected && holdsFrom (step m event .after) deeds ends
 holdsFrom m (passing ticks ∷ deeds) ends = holdsFrom (after-ticks ticks m) deeds ends
-holdsFrom m (measuring spare media controller ∷ deeds) ends = holdsFrom (step m (reading (newReading spare media controller)) .after) deeds ends
+holdsFrom m (powering ∷ deeds) ends = holdsFrom (step m power .after) deeds ends
+holdsFrom m (taken new ∷ deeds) ends = not (refused? (step m (reading new) .reply .verdict)) && holdsFrom (step m (reading new) .after) deeds ends
+holdsFrom m (gives-R number new ∷ deeds) ends = by-R number (step m (reading new) .reply .verdict) && holdsFrom (step m (reading new) .after) deeds ends
 
 abbrev pub holds : Case → Bool
 holds c = holdsFrom (c .from) (c .deeds) (c .ends)
@@ -176,11 +189,24 @@ cases =
     -- off, nor what is at its threshold
     ∷ case
     (ask 17 (0x00 ∷ 0x00 ∷ 20 ∷ 0x00 ∷ 0x05 ∷ 0x01 ∷ 0x80 ∷ []) gets status 0
-    ∷ measuring 19 0x0501 0x8000
+    ∷ taken (newReading 19 0x0501 0x8000)
     ∷ ask 1 [] gets health (0 ∷ 0 ∷ 0 ∷ 0 ∷ 0x1A ∷ 0x02 ∷ 0 ∷ 0 ∷ 0 ∷ 0 ∷ 0 ∷ 0 ∷ 0 ∷ 19 ∷ 0 ∷ 0x00 ∷ 0x01 ∷ 0x05 ∷ 0x00 ∷ 0x80 ∷ [])
     ∷ ask 17 (0x07 ∷ 0x00 ∷ 20 ∷ 0x00 ∷ 0x05 ∷ 0x01 ∷ 0x80 ∷ []) gets status 0
     ∷ ask 1 [] gets health (0 ∷ 0 ∷ 0 ∷ 0 ∷ 0x1A ∷ 0x02 ∷ 0 ∷ 0 ∷ 0 ∷ 0 ∷ 0 ∷ 0 ∷ 0 ∷ 19 ∷ 0 ∷ 0x07 ∷ 0x01 ∷ 0x05 ∷ 0x00 ∷ 0x80 ∷ [])
-    ∷ measuring 20 0x0500 0x8001
+    ∷ taken (newReading 20 0x0500 0x8001)
     ∷ ask 1 [] gets health (0 ∷ 0 ∷ 0 ∷ 0 ∷ 0x1A ∷ 0x02 ∷ 0 ∷ 0 ∷ 0 ∷ 0 ∷ 0 ∷ 0 ∷ 0 ∷ 20 ∷ 0 ∷ 0x00 ∷ 0x00 ∷ 0x05 ∷ 0x01 ∷ 0x80 ∷ [])
+    ∷ [])
+    -- function 1 with a request byte: status 3, 132 bytes; at revision 3: status 1, 4 bytes
+    ∷ case (ask 1 (0 ∷ []) gets (status 3 ++ zeros 128) ∷ at-revision 3 1 [] gets status 1 ∷ [])
+    -- "8000h equals 0": the media's 8000h is not above 0000h, nor the controller's 0000h above 8000h; one above is, one below is not. "spare over 100 in a new
+    -- reading is R4", and the last one stays; "power cycles keep the last one"
+    ∷ case
+    (ask 17 (0x06 ∷ 0x00 ∷ 0 ∷ 0x00 ∷ 0x00 ∷ 0x00 ∷ 0x80 ∷ []) gets status 0
+    ∷ taken (newReading 100 0x8000 0x0000)
+    ∷ ask 1 [] gets health (0 ∷ 0 ∷ 0 ∷ 0 ∷ 0x1A ∷ 0x02 ∷ 0 ∷ 0 ∷ 0 ∷ 0 ∷ 0 ∷ 0 ∷ 0 ∷ 100 ∷ 0 ∷ 0x00 ∷ 0x00 ∷ 0x80 ∷ 0x00 ∷ 0x00 ∷ [])
+    ∷ taken (newReading 0 0x0001 0x8001)
+    ∷ gives-R 4 (newReading 101 0x0000 0x0000)
+    ∷ powering
+    ∷ ask 1 [] gets health (0 ∷ 0 ∷ 0 ∷ 0 ∷ 0x1A ∷ 0x02 ∷ 0 ∷ 0 ∷ 0 ∷ 0 ∷ 0 ∷ 0 ∷ 0 ∷ 0 ∷ 0 ∷ 0x02 ∷ 0x01 ∷ 0x00 ∷ 0x01 ∷ 0x80 ∷ [])
     ∷ [])
     ∷ []

@@ -17,7 +17,7 @@ use Rattle.rules.specs.Module.{Result, callChecks, callResult, readingCh
 use Rattle.rules.specs.declared.{Function.the-variants.Mask, Row.Row, Refusal.Refusal, Refusal.the-variants.{R, Status}, Verdict.the-variants.{Accepted, Refused}}
 use Rattle.rules.specs.declared.Reading.{Reading}
 
--- the refusal numbers of document 01, in its table's order: these are given, each by some call, and no other is. When each is given, the checks say.
+-- the refusal numbers of document 01, in its table's order: these are given, each by some call, and no other is by a call: R4 is a reading's. When each is given, the checks say.
 abbrev pub refusalNumbers : List Refusal
 refusalNumbers =
     R 1

@@ -23,14 +23,14 @@
 -- several lines begin with the name, they are cases: the line whose left side fits is the one that counts. Below `module _ (M : A) where` every definition
 -- takes M first.
 -- Numbers: ℕ is 0, 1, 2 and so on, of any size; `zero` and `suc n` are 0 and n + 1; `n - m` is 0 where m is the greater; `/` and `%` divide, without and for the
--- remainder; `^` is a power; `0x` begins a number in base 16.
+-- remainder; `^` is a power; `0x` begins a number in base 16. ℤ is the whole numbers, those below 0 too: `pos n` is n, `negℤ z` is minus z.
 -- Tests come out true or false, and their type ends in `Bool`: `=?`, `<?` and `≤?` compare two numbers; `&&` is and, `||` is or, `not` turns true and false round.
 -- Lists: `[]` is empty, `a ∷ b` is a before the list b; `++` joins two lists; `take n` and `drop n` are a list's first n and all after them; `length s` is how
 -- many s has; `replicate n a` is a, n times. "\n" is a line feed.
 -- Types: `A → B → C` takes an A and a B and gives a C; `(n : A)` names what is taken, and in braces, `{h : A}`, it is left unwritten where it is used; `A × B` is a
 -- pair of both. `data` lists the forms that a thing may have, `record` the fields that it has. What ends in `Type 0`, its name with a capital, is a sort of
 -- thing, as `Event` is, or a statement, as `Honest` is.
--- Statements: `≡` is "equals", `≤` and `<` as usual, `×` and, `⊎` or, `→` "if .., then ..", `↔` "exactly when", `⊥` never, `Unit {0}` always; `(x : A) → ..` is
+-- Statements: `≡` is "equals", `≤` and `<` as usual, `<ℤ` too, `×` and, `⊎` or, `→` "if .., then ..", `↔` "exactly when", `⊥` never, `Unit {0}` always; `(x : A) → ..` is
 -- "for every x". A `record` of statements holds where every one of its lines does; a line that names a thing, as `transfer : FinishedIn h` in `Due`, says that
 -- there is one. A `data` of statements, as `ByMoves`, holds where one of its forms can be made.
 -- Files: `use` says which file a name comes from; under `declared` stand the types of src/lib.rt. `pub` lets other files use the name. `--` begins a remark. Words

@@ -1,6 +1,6 @@
 -- Document 01, "What the module model covers": "device record, staging area and one call, tick or power cycle go in; answer bytes and the new record and
--- area come out." Document 02, T-04: a health reading "becomes a fourth event". Bytes are decoded to a call; its checks are made in the page's order; then the step; then the answer's bytes. Record and area go in and come
--- out as one, a `Module`.
+-- area come out." Document 02, T-04: a health reading "becomes a fourth event". Bytes are decoded to a call; its checks are made in the page's order; then the
+-- step; then the answer's bytes. Record and area go in and come out as one, a `Module`.
 -- Assumes nothing.
 use Prim.Native.Nat.{ℕ}
 use mathlib.Core.List.{List, [], _∷_, _++_}
@@ -16,7 +16,7 @@ use Rattle.rules.specs.Security.{SecurityCall, GetSecurityState, setPass
 use Rattle.rules.specs.declared.{Refusal.the-variants.{R, Status}, Verdict.Verdict, Verdict.the-variants.{Accepted, Refused}, Reply.Reply, Function.Function, Reading.Reading}
 use Rattle.rules.specs.declared.Function.the-variants as Function′
 
--- a call, decoded: function 0 with its revision; function 1, which reads; or a call on one part of the record; an index that the table lacks, to which status 1 comes first
+-- a call, decoded: function 0 with its revision; function 1, which carries nothing; or a call on one part of the record; an index that the table lacks, to which status 1 comes first
 pub data Call : Type 0 where
   OnMask : (revision : ℕ) → Call
   OnHealth : Call

@@ -262,6 +262,7 @@ pub record NoneAbove (most : ℕ) (r : Report) : Type 0 where
   pub masks : r .counts .masks ≤ most
   pub ticks : r .counts .ticks ≤ most
   pub powers : r .counts .powers ≤ most
+  pub readings : r .counts .readings ≤ most
   pub bads : r .counts .bads ≤ most
   pub shorts : r .counts .shorts ≤ most
 

@@ -6,10 +6,10 @@ use lib.ListN.{drop}
 use borrow.Author.Tests.{eqb-true, eq-eqb}
 use Rattle.rules.{specs.Tests.{if_then_else_, _=?_}, specs.Bytes.numberAt, specs.Record.{Module, _is_}}
 use Rattle.rules.{specs.Security.{GetSecurityState, SetPassphrase, Disable, Unlock, Freeze}, specs.Module.{call, tick, power, reading, step}}
-use Rattle.rules.{specs.Transfers.{machine, Sent, Finished, Other}, specs.Beside.{NoSend, AreaStays, FrozenFirst, TakenOver}, specs.declared.Phase.Phase}
+use Rattle.rules.{specs.Transfers.{machine, Sent, Finished, Other}, specs.Beside.{NoSend, AreaStays, lastReading, LastKept, FrozenFirst, TakenOver}, specs.declared.Phase.Phase}
 use Rattle.rules.{specs.declared.Phase.the-variants.Staged, specs.declared.Security.Security, specs.declared.Verdict.Verdict}
 use Rattle.rules.{specs.declared.Verdict.the-variants.{Accepted, Refused}, proofs.page.Choice.{if-both, or-true}}
-use Rattle.rules_demands.specs.{Words.answeredAs, Beside.{AreaWrittenOut, FrozenWrittenOut, BesideWrittenOut}}
+use Rattle.rules_demands.specs.{Words.answeredAs, Beside.{AreaWrittenOut, LastWrittenOut, FrozenWrittenOut, BesideWrittenOut}}
 use Rattle.rules_demands.proofs.Words.{kind-event}
 
 -- no Send: another function, or a refused call
@@ -61,10 +61,21 @@ frozen-written first s either =
     forbids (inl e) = first-true (s .frozen) (s .attempts =? 10) e
     forbids (inr e) = or-true (s .frozen) (s .attempts =? 10) (eq-eqb (s .attempts) 10 e)
 
-pub written-out : AreaStays → FrozenFirst → TakenOver → BesideWrittenOut
-written-out stays first taken =
+last-written : LastKept → (m : Module) → LastWrittenOut m
+last-written kept m =
+    record {
+      stays-over-a-tick = kept m tick;
+      stays-over-power = kept m power;
+      stays-over-a-call = λ host revision index request buffer. kept m (call host revision index request buffer);
+      stays-where-refused = λ new refusal e. kept m (reading new) ∙ ap (lastReading m (reading new)) e;
+      new-where-accepted = λ new e. kept m (reading new) ∙ ap (lastReading m (reading new)) e;
+    }
+
+pub written-out : AreaStays → LastKept → FrozenFirst → TakenOver → BesideWrittenOut
+written-out stays kept first taken =
     record {
       area = area-written stays;
+      last-reading = last-written kept;
       frozen = frozen-written first;
       taken-over = λ m possible fits size staged.
           taken m (m .device .transfer .staged) (record { record-possible = possible; contexts-fit = fits; area-size = size })

@@ -4,7 +4,7 @@ use Prim.Native.Nat.{ℕ, _/_, _<_}
 use mathlib.Core.{Path.{_≡_, refl, ap, subst, sym}, Logic.{_↔_, _⊎_, inl, inr}, Bool.{Bool, true, false, _||_, false≢true}, List.{List}}
 use native.Mathlib.Omega.{arith}
 use lib.ListN.{length}
-use Rattle.rules.{specs.Bytes.zeros?, specs.Record.{possible, possibleTransfer, possibleSecurity, possibleThresholds}, specs.Adopt.{possibleBefore, adoptable, adopted, idleAgain}}
+use Rattle.rules.{specs.Bytes.zeros?, specs.Record.{possible, possibleTransfer, possibleSecurity, possibleThresholds, possibleReading}, specs.Adopt.{possibleBefore, adoptable, adopted, idleAgain}}
 use Rattle.rules.specs.Fault.{reasonNumber, _of-record_, firstFault, passes, Named, First}
 use Rattle.rules.specs.declared.{Reason.Reason, Reason.the-variants.{Size, Number, Count, Version, Sum}, Device.Device}
 use Rattle.rules.{proofs.page.Faults.{request-T03, good-at}, proofs.page.Adopting.adopting}
@@ -154,6 +154,7 @@ idle d taken e =
       same-faulty = refl;
       same-security = refl;
       same-thresholds = refl;
+      same-reading = refl;
     })
 
 pub adopting-written : AdoptingWrittenOut
@@ -167,5 +168,5 @@ adopting-written =
     }
 
 pub faults-held : FaultsHeld
-unfolding zeros? possible possibleTransfer possibleSecurity possibleThresholds possibleBefore
-faults-held = record { numbers = refl; adopted-ones = refl; no-others = refl }
+unfolding zeros? possible possibleTransfer possibleSecurity possibleThresholds possibleReading possibleBefore
+faults-held = record { numbers = refl; adopted-ones = refl; no-others = refl; none-with-reading = refl }

@@ -1,10 +1,11 @@
--- T-04 written out: words stand in the order of their heights. Its examples, by computation over the definitions.
+-- T-04 written out: words stand in the order of their heights; the rest from its theorem. Its examples, by computation over the definitions.
 -- Assumes nothing.
 use Prim.Native.Nat.{ℕ, _+_, _-_, _<_}
 use mathlib.Core.{Path.{_≡_, refl, sym, _∙_, ap}, Bool.{Bool, true, false, _&&_}}
 use native.Mathlib.Omega.{arith}
 use borrow.Author.Tests.{lt-ltb, le-ltb, leb-true, leb-false, ltb-true}
 use Rattle.rules.specs.{Tests.{if_then_else_, _≤?_, _<?_}, Health.{size, negative, above, trips}}
+use Rattle.rules.proofs.page.Health.{request-T04}
 use Rattle.rules_demands.specs.Health.{height, HealthWrittenOut, HealthHeld}
 
 -- the same test, of numbers that stand in the same order
@@ -38,8 +39,21 @@ higher word other w o = go (negative word) refl (negative other) refl
         rw (e, f) (same-order (size other) (size word) (32767 + other) (32767 + word) (λ l. omega arith) (λ l. omega arith))
 
 pub written-out : HealthWrittenOut
-written-out = record { higher = higher }
+written-out =
+    record {
+      higher = higher;
+      above-only = λ word other. request-T04 .in-order word other .0;
+      above-where = λ word other. request-T04 .in-order word other .1;
+      minus-zero = request-T04 .minus-zero;
+      bit-0-only = λ h r. request-T04 .spare-trips h r .0;
+      bit-0-where = λ h r enabled below. request-T04 .spare-trips h r .1 (enabled, below);
+      bit-1-only = λ h r. request-T04 .media-trips h r .0;
+      bit-1-where = λ h r enabled past. request-T04 .media-trips h r .1 (enabled, past);
+      bit-2-only = λ h r. request-T04 .controller-trips h r .0;
+      bit-2-where = λ h r enabled past. request-T04 .controller-trips h r .1 (enabled, past);
+      three-bits = request-T04 .no-other-bit;
+    }
 
 pub health-held : HealthHeld
 unfolding above trips
-health-held = record { words = refl; beside-8000h = refl; each = refl; at-threshold = refl; one-each = refl; bytes = refl }
+health-held = record { measures = refl; words = refl; beside-8000h = refl; each = refl; at-threshold = refl; alone = refl; bytes = refl }

@@ -23,22 +23,23 @@ written-out =
       ticks-add = λ first second t. ap (λ (r : Report). r .counts .ticks) (request-T01 .all-taken (first ++ second) t .two-lists first second refl);
       masks-add = λ first second t. ap (λ (r : Report). r .counts .masks) (request-T01 .all-taken (first ++ second) t .two-lists first second refl);
       powers-add = λ first second t. ap (λ (r : Report). r .counts .powers) (request-T01 .all-taken (first ++ second) t .two-lists first second refl);
+      readings-add = λ first second t. ap (λ (r : Report). r .counts .readings) (request-T01 .all-taken (first ++ second) t .two-lists first second refl);
       bads-add = λ first second t. ap (λ (r : Report). r .counts .bads) (request-T01 .all-taken (first ++ second) t .two-lists first second refl);
       shorts-add = λ first second t. ap (λ (r : Report). r .counts .shorts) (request-T01 .all-taken (first ++ second) t .two-lists first second refl);
       first-taken = λ first second t. request-T01 .all-taken (first ++ second) t .each-list first second refl .0;
       second-taken = λ first second t. request-T01 .all-taken (first ++ second) t .each-list first second refl .1;
       refused = request-T01 .one-refused;
       counted = request-T01 .one-taken;
-      taken = λ r log e. request-T01 .taken-exactly r log .1 (record { cells = e .cells; masks = e .masks; ticks = e .ticks; powers = e .powers; bads = e .bads; shorts = e .shorts });
+      taken = λ r log e. request-T01 .taken-exactly r log .1 (record { cells = e .cells; masks = e .masks; ticks = e .ticks; powers = e .powers; readings = e .readings; bads = e .bads; shorts = e .shorts });
       taken-only = λ r log t.
           let e = request-T01 .taken-exactly r log .0 t in
-          record { cells = e .cells; masks = e .masks; ticks = e .ticks; powers = e .powers; bads = e .bads; shorts = e .shorts };
+          record { cells = e .cells; masks = e .masks; ticks = e .ticks; powers = e .powers; readings = e .readings; bads = e .bads; shorts = e .shorts };
       joined = λ first second a b e.
           request-T01 .two-machines first second a b .1
-          (record { cells = e .cell-sums; masks = e .mask-sum; ticks = e .tick-sum; powers = e .power-sum; bads = e .bad-sum; shorts = e .short-sum });
+          (record { cells = e .cell-sums; masks = e .mask-sum; ticks = e .tick-sum; powers = e .power-sum; readings = e .reading-sum; bads = e .bad-sum; shorts = e .short-sum });
       joined-only = λ first second a b t.
           let e = request-T01 .two-machines first second a b .0 t in
-          record { cell-sums = e .cells; mask-sum = e .masks; tick-sum = e .ticks; power-sum = e .powers; bad-sum = e .bads; short-sum = e .shorts };
+          record { cell-sums = e .cells; mask-sum = e .masks; tick-sum = e .ticks; power-sum = e .powers; reading-sum = e .readings; bad-sum = e .bads; short-sum = e .shorts };
     }
 
 pub reports-held : ReportsHeld

@@ -20,6 +20,14 @@ pub record AreaWrittenOut (m : Module) : Type 0 where
       → step m (call host revision index request buffer) .reply .verdict ≡ Refused refusal
       → step m (call host revision index request buffer) .after .area ≡ m .area
 
+-- the last reading stays over every event but a reading that is accepted, which is then the last
+pub record LastWrittenOut (m : Module) : Type 0 where
+  pub stays-over-a-tick : step m tick .after .device .reading ≡ m .device .reading
+  pub stays-over-power : step m power .after .device .reading ≡ m .device .reading
+  pub stays-over-a-call : (host revision index : ℕ) (request buffer : List ℕ) → step m (call host revision index request buffer) .after .device .reading ≡ m .device .reading
+  pub stays-where-refused : (new : Reading) (refusal : Refusal) → step m (reading new) .reply .verdict ≡ Refused refusal → step m (reading new) .after .device .reading ≡ m .device .reading
+  pub new-where-accepted : (new : Reading) → step m (reading new) .reply .verdict ≡ Accepted → step m (reading new) .after .device .reading ≡ new
+
 -- frozen, or with ten attempts: 10 to four of the five calls, whatever they carry
 pub record FrozenWrittenOut (s : Security) : Type 0 where
   pub state-told : verdict (securityChecks s GetSecurityState) ≡ Accepted
@@ -30,6 +38,7 @@ pub record FrozenWrittenOut (s : Security) : Type 0 where
 
 pub record BesideWrittenOut : Type 0 where
   pub area : (m : Module) → AreaWrittenOut m
+  pub last-reading : (m : Module) → LastWrittenOut m
   pub frozen : (s : Security) → (s .frozen ≡ true) ⊎ (s .attempts ≡ 10) → FrozenWrittenOut s
   pub taken-over : (m : Module) → possible (m .device) ≡ true → m .device .transfer .contexts ≤ 4294967295 → length (m .area) ≡ 16384
       → m .device .transfer .phase ≡ Staged

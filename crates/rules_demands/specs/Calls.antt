@@ -1,5 +1,5 @@
--- Demand 1 written out, with none of the words of rules' Demand1.antt: what a call comes to, for each verdict, as one result; which numbers there are; and what
--- every event keeps. `demand_1` promises both, this one proved from that one, so that a line of Demand1.antt that says less no longer gives it.
+-- Demand 1 written out, with none of the words of rules' Demand1.antt: what a call comes to, for each verdict, as one result; what a reading comes to;
+-- which numbers there are; and what every event keeps. `demand_1` promises both, this one proved from that one, so that a line of Demand1.antt that says less no longer gives it.
 -- Assumes nothing.
 use Prim.Native.Nat.{ℕ, _+_, _-_, _<_}
 use mathlib.Core.{Path._≡_, Logic.{_⊎_, _↔_}, Bool.{true, not, _||_}, List.{List, [], _∷_, _++_}}
@@ -63,7 +63,7 @@ pub record CallWrittenOut (m : Module) (revision index : ℕ) (request buffer : 
   pub served : callResult m revision index request buffer .reply .verdict ≡ Accepted
       → Served index buffer (callResult m revision index request buffer)
 
--- the numbers of the page's table
+-- the numbers of the page's table, which calls give
 abbrev pub numbersOfThePage : List Refusal
 numbersOfThePage =
     R 1
@@ -102,7 +102,7 @@ LendsTooLittle tick = ⊥
 LendsTooLittle power = ⊥
 LendsTooLittle (reading new) = ⊥
 
--- the event is a reading of more than 100
+-- the event is a reading whose spare is over 100
 abbrev pub ReadsOver100 : Event → Type 0
 ReadsOver100 (call host revision index request buffer) = ⊥
 ReadsOver100 tick = ⊥
@@ -131,7 +131,7 @@ pub record EventWrittenOut (m : Module) (event : Event) : Type 0 where
 
 pub record Demand1WrittenOut : Type 0 where
   pub calls : (m : Module) (revision index : ℕ) (request buffer : List ℕ) → CallWrittenOut m revision index request buffer
-  -- a number is given exactly when it is in the page's table
+  -- a number is given by some call exactly when it is in the page's table
   pub numbers : (refusal : Refusal) → IsGiven refusal ↔ OneOf numbersOfThePage refusal
   pub readings : (m : Module) (new : Reading) → ReadingWrittenOut m new
   pub numbers-of-readings : (refusal : Refusal) → IsGivenByReading refusal ↔ OneOf (R 2 ∷ R 3 ∷ R 4 ∷ []) refusal

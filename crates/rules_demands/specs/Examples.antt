@@ -7,13 +7,15 @@ use Rattle.rules.specs.Tests.{if_then_else_}
 use Rattle.rules.specs.With.{_with-transfer_, _with-phase_, _with-received_, _with-staged_}
 use Rattle.rules.specs.Record.{_is_, fresh, Module, moduleOf}
 use Rattle.rules.specs.Module.{Event, call}
+use Rattle.rules.specs.Health.{newReading}
 use Rattle.rules.specs.Text.{ascii}
-use Rattle.rules.specs.Replay.{replayStart, replayText}
-use Rattle.rules.specs.Cases.{Deed, _gets_, passing, measuring, Case, cases, failing}
+use Rattle.rules.specs.Log.{entryOf}
+use Rattle.rules.specs.Replay.{replayStart, moduleAfter, replayText}
+use Rattle.rules.specs.Cases.{Deed, _gets_, passing, powering, taken, gives-R, Case, cases, failing}
 use Rattle.rules.specs.Texts.{texts, logOf, textOf}
-use Rattle.rules.specs.declared.{Phase.Phase, Phase.the-variants.{Idle, Verifying, Staged, Failed}}
+use Rattle.rules.specs.declared.{Entry.the-variants.{Health, Bad}, Phase.Phase, Phase.the-variants.{Idle, Receiving, Verifying, Staged, Failed}}
 
--- a Start and a Finish at revision 2, lent 132 bytes of this number
+-- a call at revision 2, lent 132 bytes of this number
 abbrev asks : (index : ℕ) (request : List ℕ) (lent : ℕ) → Event
 asks index request lent = call 1 2 index request (replicate 132 lent)
 
@@ -49,10 +51,16 @@ wrongCases =
     (phase-is Failed)
     -- a reading: nothing is enabled, and so nothing has tripped
     ∷ row
-    (measuring 1 2 3
+    (taken (newReading 1 2 3)
     ∷ asks 1 [] 255 gets ((0 ∷ 0 ∷ 0 ∷ 0 ∷ 0x1A ∷ 0x02 ∷ 0 ∷ 0 ∷ 0 ∷ 0 ∷ 0 ∷ 0 ∷ 0 ∷ 1 ∷ 0 ∷ 1 ∷ 2 ∷ 0 ∷ 3 ∷ 0 ∷ []) ++ replicate 112 0)
     ∷ [])
     (λ m. true)
+    -- a reading that is refused; one that is taken; another number
+    ∷ row (taken (newReading 101 0 0) ∷ []) (λ m. true)
+    ∷ row (gives-R 4 (newReading 100 0 0) ∷ []) (λ m. true)
+    ∷ row (gives-R 3 (newReading 101 0 0) ∷ []) (λ m. true)
+    -- a power cycle, after which no transfer goes on
+    ∷ row (asks 13 [] 255 gets (0 ∷ 0 ∷ 0 ∷ 0 ∷ 1 ∷ 0 ∷ 0 ∷ 0 ∷ []) ∷ powering ∷ []) (phase-is Receiving)
     ∷ []
 
 -- Modules that are nearly the end of some row, each wrong in one thing: a version, a phase, the bytes received, a byte of the area.
@@ -82,10 +90,15 @@ looking = 4 ∷ 5 ∷ 6 ∷ 11 ∷ 12 ∷ 13 ∷ []
 
 pub record CasesHeld : Type 0 where
   pub hold : failing 0 cases ≡ []
-  pub seventeen : length cases ≡ 17
-  pub how-long : map (λ c. length (c .deeds)) cases ≡ 1 ∷ 1 ∷ 1 ∷ 1 ∷ 1 ∷ 1 ∷ 1 ∷ 1 ∷ 2 ∷ 2 ∷ 2 ∷ 4 ∷ 5 ∷ 5 ∷ 12 ∷ 2 ∷ 7 ∷ []
-  pub wrong-ones-fail : failing 0 wrongCases ≡ 0 ∷ 1 ∷ 2 ∷ 3 ∷ 4 ∷ 5 ∷ 6 ∷ []
+  pub how-many : length cases ≡ 19
+  pub how-long : map (λ c. length (c .deeds)) cases ≡ 1 ∷ 1 ∷ 1 ∷ 1 ∷ 1 ∷ 1 ∷ 1 ∷ 1 ∷ 2 ∷ 2 ∷ 2 ∷ 4 ∷ 5 ∷ 5 ∷ 12 ∷ 2 ∷ 7 ∷ 2 ∷ 7 ∷ []
+  pub wrong-ones-fail : failing 0 wrongCases ≡ 0 ∷ 1 ∷ 2 ∷ 3 ∷ 4 ∷ 5 ∷ 6 ∷ 7 ∷ 8 ∷ 9 ∷ 10 ∷ []
   pub ends-seen : map (notTheEndOf 0 cases) nearMisses ≡ replicate 7 looking
+
+-- a reading's record: spare 100, media 0501h, controller 8000h; bytes 1, 2 to 6, 7, 13 and 543 are these
+abbrev pub readingRecord : (first early before behind last : ℕ) → List ℕ
+readingRecord first early before behind last =
+    4 ∷ first ∷ replicate 5 early ++ (before ∷ 100 ∷ 0x01 ∷ 0x05 ∷ 0x00 ∷ 0x80 ∷ behind ∷ replicate 529 0 ++ (last ∷ []))
 
 pub record TextsHeld : Type 0 where
   pub print : map (λ row. replayText (logOf row)) texts ≡ map textOf texts
@@ -104,4 +117,9 @@ pub record TextsHeld : Type 0 where
       ∷ ascii "record kind status ext length\n0 call 0 0 8\n1 call 0 0 4\n2 call 0 0 4\n3 tick\n4 tick\n5 tick\n6 tick\n7 tick\n8 tick\n9 tick\n10 tick\nend failed 1 version 3\n"
       ∷ ascii "record kind status ext length\n0 call 0 0 8\n1 call 0 0 4\n2 call 0 0 4\n3 tick\n4 tick\n5 tick\n6 tick\n7 tick\n8 tick\n9 tick\n10 tick\nend failed 1 version 0\n"
       ∷ []
+  -- a reading's five bytes, each in its place; a byte beside them, before or behind; and what the replay's module keeps
+  pub five-bytes : entryOf (readingRecord 0 0 0 0 0) ≡ Health 100 0x0501 0x8000
+  pub other-bytes : map entryOf (readingRecord 1 0 0 0 0 ∷ readingRecord 0 1 0 0 0 ∷ readingRecord 0 0 1 0 0 ∷ readingRecord 0 0 0 1 0 ∷ readingRecord 0 0 0 0 1 ∷ [])
+      ≡ replicate 5 Bad
+  pub kept : moduleAfter replayStart (readingRecord 0 0 0 0 0) 1 .device .reading ≡ newReading 100 0x0501 0x8000
   pub begins : replayStart ≡ record { device = fresh; area = replicate 16384 0 }

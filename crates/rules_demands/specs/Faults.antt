@@ -4,8 +4,8 @@ use Prim.Native.Nat.{ℕ, _*_, _/_, _%_, _^_, _<_}
 use mathlib.Core.{Path._≡_, Logic.{_↔_, _⊎_}, Bool.{Bool, true, false, not, _&&_}, List.{List, [], _∷_, map}}
 use lib.ListN.{length, take, drop}
 use Rattle.rules.specs.Tests.{if_then_else_, _≤?_, _=?_}
-use Rattle.rules.specs.{Bytes.{numberAt}, Image.{sumOfWords, goodRecord, goodImage}, Record.{possible, fresh}, Adopt.{possibleBefore, adoptable, adopted}}
-use Rattle.rules.specs.With.{_with-transfer_, _with-phase_, _with-contexts_, _with-received_, _with-reason_}
+use Rattle.rules.specs.{Bytes.{numberAt}, Image.{sumOfWords, goodRecord, goodImage}, Record.{possible, fresh}, Health.{newReading}, Adopt.{possibleBefore, adoptable, adopted}}
+use Rattle.rules.specs.With.{_with-transfer_, _with-reading_, _with-phase_, _with-contexts_, _with-received_, _with-reason_}
 use Rattle.rules.specs.Fault.{reasonNumber, none, _of-record_, firstFault, imageOf}
 use Rattle.rules.specs.declared.{Reason.Reason, Reason.the-variants.{Size, Number, Count, Version, Sum}, Image.the-variants.{Good, Bad}}
 use Rattle.rules.specs.declared.{Phase.Phase, Phase.the-variants.{Idle, Failed}, Device.Device}
@@ -62,6 +62,7 @@ pub record IdleWithAllElse (d taken : Device) : Type 0 where
   pub same-faulty : taken .transfer .faulty ≡ d .transfer .faulty
   pub same-security : taken .security ≡ d .security
   pub same-thresholds : taken .thresholds ≡ d .thresholds
+  pub same-reading : taken .reading ≡ d .reading
 
 pub record AdoptingWrittenOut : Type 0 where
   pub possible-then : (d : Device) → (possible d ≡ true) ⊎ (possibleBefore d ≡ true) → possible (adopted d) ≡ true
@@ -79,3 +80,5 @@ pub record FaultsHeld : Type 0 where
   pub numbers : map reasonNumber (Size ∷ Number ∷ Count ∷ Version ∷ Sum ∷ []) ≡ 1 ∷ 2 ∷ 3 ∷ 4 ∷ 5 ∷ []
   pub adopted-ones : map adopted (kept Failed 7 128 0 ∷ kept Failed 7 128 5 ∷ kept Idle 7 0 0 ∷ []) ≡ kept Idle 7 0 0 ∷ kept Failed 7 128 5 ∷ kept Idle 7 0 0 ∷ []
   pub no-others : map adoptable (kept Failed 0 128 0 ∷ kept Failed 7 128 6 ∷ kept Idle 7 0 1 ∷ kept Idle 7 1 0 ∷ []) ≡ false ∷ false ∷ false ∷ false ∷ []
+  -- nor one in Failed without a reason that has a reading, which no library before kept
+  pub none-with-reading : map (λ new. adoptable (kept Failed 7 128 0 with-reading new)) (newReading 1 0 0 ∷ newReading 0 1 0 ∷ newReading 0 0 1 ∷ []) ≡ false ∷ false ∷ false ∷ []

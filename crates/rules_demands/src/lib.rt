@@ -28,7 +28,8 @@ pub fn demand_3()
     ensures { λ r. ⌜ Demand3WrittenOut ⌝ }
 {}
 
-// What the page says of one event, beside the demands: the area stays, a frozen module answers 10, a staged version is taken over.
+// What the page says of one event, beside the demands: the area stays, the last reading is kept, a frozen module answers 10,
+// a staged version is taken over.
 pub fn beside_the_demands()
     ensures { λ r. ⌜ BesideWrittenOut ⌝ }
 {}

@@ -7,7 +7,7 @@ use lib.ListN.{getD}
 use borrow.Author.Tests.{leb-true, le-leb}
 use Rattle.rules.specs.{Tests._≤?_, Report.{Report, largestCount, rowFits, gridFits, countsFit, fits, NoneAbove}}
 use Rattle.rules.specs.declared.Counts.{Counts}
-use Rattle.rules.proofs.page.Choice.{and-true}
+use Rattle.rules.proofs.page.Choice.{and-true, and-6}
 
 -- each count of a row, and each cell of a grid
 row-none : (row : List ℕ) → rowFits row ≡ true → (column : ℕ) → getD row column 0 ≤ largestCount
@@ -33,17 +33,18 @@ unfolding fits
 none-above r e =
     let two = and-true (gridFits (r .grid)) (countsFit (r .counts)) e in
     let c : Counts = r .counts in
-    let five = and-true (c .masks ≤? largestCount && c .ticks ≤? largestCount && c .powers ≤? largestCount && c .bads ≤? largestCount) (c .shorts ≤? largestCount) (two .1) in
-    let four = and-true (c .masks ≤? largestCount && c .ticks ≤? largestCount && c .powers ≤? largestCount) (c .bads ≤? largestCount) (five .0) in
-    let three = and-true (c .masks ≤? largestCount && c .ticks ≤? largestCount) (c .powers ≤? largestCount) (four .0) in
-    let first = and-true (c .masks ≤? largestCount) (c .ticks ≤? largestCount) (three .0) in
+    let six =
+    and-6 (c .masks ≤? largestCount) (c .ticks ≤? largestCount) (c .powers ≤? largestCount) (c .readings ≤? largestCount) (c .bads ≤? largestCount) (c .shorts ≤? largestCount)
+    (two .1)
+    in
     record {
       cells = grid-none (r .grid) (two .0);
-      masks = leb-true (c .masks) largestCount (first .0);
-      ticks = leb-true (c .ticks) largestCount (first .1);
-      powers = leb-true (c .powers) largestCount (three .1);
-      bads = leb-true (c .bads) largestCount (four .1);
-      shorts = leb-true (c .shorts) largestCount (five .1);
+      masks = leb-true (c .masks) largestCount (six .0);
+      ticks = leb-true (c .ticks) largestCount (six .1);
+      powers = leb-true (c .powers) largestCount (six .2);
+      readings = leb-true (c .readings) largestCount (six .3);
+      bads = leb-true (c .bads) largestCount (six .4);
+      shorts = leb-true (c .shorts) largestCount (six .5);
     }
 
 none-fits : (r : Report) → NoneAbove largestCount r → fits r ≡ true
@@ -55,6 +56,7 @@ none-fits r none =
       le-leb (c .masks) largestCount (none .masks),
       le-leb (c .ticks) largestCount (none .ticks),
       le-leb (c .powers) largestCount (none .powers),
+      le-leb (c .readings) largestCount (none .readings),
       le-leb (c .bads) largestCount (none .bads),
       le-leb (c .shorts) largestCount (none .shorts),
     )
