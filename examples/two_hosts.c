@@ -1,5 +1,5 @@
-/* Two hosts, one module: the bench updates the module's firmware while a laptop tries to do the same, and is refused. The
- * record is kept in its slots at every step, as module.h says under "Power loss".
+/* Two hosts, one module: the bench updates the module's firmware while a laptop tries to do the same, and is refused. Before and
+ * after it asks for the module's health. The record is kept in its slots at every step, as module.h says under "Power loss".
  * examples/build says how to build it; examples/two_hosts.expected is what it prints. */
 #include <stdio.h>
 #include <string.h>
@@ -72,6 +72,12 @@ static int power_up(void)
         && module_power(record, sizeof record, area, sizeof area) == 0 && keep();
 }
 
+/* The module's sensors have been read. */
+static int reading(uint8_t spare, uint16_t media, uint16_t controller)
+{
+    return module_reading(record, sizeof record, area, sizeof area, spare, media, controller) == 0 && keep();
+}
+
 static int tick(void) { return module_tick(record, sizeof record, area, sizeof area) == 0 && keep(); }
 
 /* One call, with a line that says who called what and what came of it. 1 where the call was accepted. */
@@ -80,7 +86,7 @@ static int call(const char *host, const char *name, uint64_t function, const uin
     int32_t given = module_call(record, sizeof record, area, sizeof area, MODULE_REVISION, function, request, length,
                                 answer, sizeof answer);
 
-    printf("%-7s %-12s ", host, name);
+    printf("%-7s %-13s ", host, name);
     if (given < 0) {
         printf("gives R%d: nothing was written\n", (int)-given);
         return 0;
@@ -144,6 +150,25 @@ static void show_versions(void)
         printf("        running version %u, staged version %u\n", (unsigned)get(answer + 28, 8), (unsigned)get(answer + 36, 8));
 }
 
+/* The media alarm on, with its threshold at 35 degrees, which is 560 sixteenths. */
+static int set_media_alarm(void)
+{
+    uint8_t request[7] = {0};
+
+    put(request, 2, 2);
+    put(request + 3, 2, 560);
+    return call("bench", "Set Threshold", MODULE_SET_THRESHOLD, request, sizeof request);
+}
+
+static double degrees(uint64_t word) { return (word & 0x8000 ? -1 : 1) * (double)(word & 0x7FFF) / 16; }
+
+static void show_health(void)
+{
+    if (call("bench", "Get Health", MODULE_GET_HEALTH, nothing, 0))
+        printf("        spare %u, media %.1f, controller %.1f, trips %u\n", answer[13], degrees(get(answer + 16, 2)),
+               degrees(get(answer + 18, 2)), answer[15]);
+}
+
 /* The image of a payload, as the build room makes it. 1 where it is made. */
 static int make_image(uint8_t image[IMAGE_SIZE])
 {
@@ -176,6 +201,9 @@ int main(void)
     if (!make() || !power_up())
         return 1;
     show_versions();
+    if (!set_media_alarm() || !reading(80, 640, 0x8018)) /* 40 degrees, and 1.5 below zero */
+        return 1;
+    show_health();
 
     if (!start("bench", &context))
         return 1;
@@ -199,5 +227,6 @@ int main(void)
         return 1;
     printf("        power cycle: all but the slots was lost\n");
     show_versions();
+    show_health();
     return 0;
 }

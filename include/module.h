@@ -35,8 +35,8 @@ extern "C" {
 /* Sizes in bytes. */
 #define MODULE_RECORD_SIZE 128   /* the device record */
 #define MODULE_AREA_SIZE 16384   /* the staging area */
-#define MODULE_ANSWER_LEAST 64   /* the least answer buffer of a call */
-#define MODULE_ANSWER_MOST 44    /* the longest answer */
+#define MODULE_ANSWER_LEAST 132  /* the least answer buffer of a call, whichever function it is of */
+#define MODULE_ANSWER_MOST 132   /* the longest answer */
 #define MODULE_PIECE_MOST 512    /* the longest piece of one Send */
 #define MODULE_SEND_HEAD 12      /* what stands before the piece: context, offset, length, 4 bytes each */
 #define MODULE_PASSPHRASE_SIZE 32
@@ -46,10 +46,12 @@ extern "C" {
 #define MODULE_R1 (-1) /* the answer buffer is shorter than MODULE_ANSWER_LEAST */
 #define MODULE_R2 (-2) /* the area is not MODULE_AREA_SIZE bytes */
 #define MODULE_R3 (-3) /* the record is not possible, or not MODULE_RECORD_SIZE bytes, or its bytes are no record */
+#define MODULE_R4 (-4) /* a new reading's spare is over 100 */
 
 /* The function indexes of a call, and the revision that serves them all. */
 #define MODULE_REVISION 2
 #define MODULE_MASK 0
+#define MODULE_GET_HEALTH 1
 #define MODULE_GET_THRESHOLD 2
 #define MODULE_GET_FW_INFO 12
 #define MODULE_START 13
@@ -82,6 +84,10 @@ extern "C" {
  *
  *   MODULE_MASK                request: anything
  *                              answer:  the bits of the functions that the revision serves [0-3], and no status
+ *   MODULE_GET_HEALTH          request: none
+ *                              answer:  what is valid here [4-7], always 0000021Ah, zeros [8-12], spare [13], zero [14], the alarms
+ *                                       that trip [15] (bit 0 spare, 1 media, 2 controller), media temperature [16-17], controller
+ *                                       temperature [18-19], zeros [20-131]
  *   MODULE_GET_THRESHOLD       request: none
  *                              answer:  enable bits [4-5] (0 spare, 1 media, 2 controller), spare [6], media temperature [7-8],
  *                                       controller temperature [9-10], zero [11]
@@ -105,12 +111,20 @@ extern "C" {
  *
  * A request has exactly these bytes, but for MODULE_MASK's. Where no answer is named it is the status and the extended number. */
 
+/* A temperature word, in a reading and in a threshold alike: bits 0 to 14 are its size in sixteenths of a degree Celsius, bit 15 is
+ * set below zero. 0190h is 25 degrees, 8190h is 25 below zero; 8000h equals 0000h. Any word is one.
+ *
+ * An alarm trips where its enable bit is set and the last reading's spare is below the spare threshold, or its temperature above
+ * the temperature's. What equals its threshold does not trip. It is not kept: each answer of MODULE_GET_HEALTH compares the last
+ * reading with the thresholds as they are. Before the first reading spare and temperatures are 0, and answered as valid. */
+
 /* The version of the record's layout, for the caller to keep beside a record that outlives this library: the record's bytes
  * do not say it. Where a field joins the record it is another number. */
-#define MODULE_RECORD_LAYOUT 2
+#define MODULE_RECORD_LAYOUT 3
 
-/* What a record kept under layout 1 means under layout 2: the same, but in Failed. There layout 1 kept no reason, so that the
- * record is not possible any more, and gives R3 to everything, a power cycle too; module_adopt takes it over. */
+/* What a record kept under an older layout means under layout 3. Layout 2 had no reading: the same, with a reading of zeros.
+ * Layout 1 had no fault either: likewise, but in Failed. There it kept no reason, so that the record is not possible any more, and
+ * gives R3 to everything, a power cycle too; module_adopt takes it over. */
 
 /* The reasons of a fault, in the order in which they are looked for: the size of what was received; then, from record 0 up,
  * a record's number, count, version and sum. */
@@ -137,7 +151,11 @@ extern "C" {
  *   36-37   controller temperature threshold
  *   38      in Failed, the reason of the first fault, MODULE_FAULT_SIZE to MODULE_FAULT_SUM; else 0
  *   39      in Failed, the number of its record, from 0 to 127; a tick writes 0 for MODULE_FAULT_SIZE; else 0
- *   40-63   zero
+ *   40      the last reading: spare, 0 to 100
+ *   41      zero
+ *   42-43   the last reading: media temperature
+ *   44-45   the last reading: controller temperature
+ *   46-63   zero
  *   64-95   passphrase
  *   96-127  zero
  *
@@ -194,14 +212,24 @@ int32_t module_tick(uint8_t *record, size_t record_len, const uint8_t *area, siz
  * Answers: 0; MODULE_R2 or MODULE_R3. */
 int32_t module_power(uint8_t *record, size_t record_len, const uint8_t *area, size_t area_len);
 
-/* A record that an older library may have kept, taken over: one in Failed, which has no reason, becomes Idle with received 0;
- * every other byte, and every byte of any other record, stays as it is. Once, after an update of the library, before anything
- * else; a second time changes nothing. Where the record is in slots, as step 2 of "Each time that power comes back", under
- * "Power loss".
+/* One health reading: the spare, and two temperature words. The record keeps the last one, power cycles too, and answers
+ * MODULE_GET_HEALTH from it. It is no host's call: make it whenever the module's own sensors have been read, in any phase and any
+ * security state, then keep the record, as under "Power loss".
+ *
+ * Reads:   record, the length of the area; none of its bytes.
+ * Writes:  record; bytes 40 and 42 to 45 may change, and no other.
+ * Answers: 0; MODULE_R2, MODULE_R3 or MODULE_R4. */
+int32_t module_reading(uint8_t *record, size_t record_len, const uint8_t *area, size_t area_len, uint8_t spare, uint16_t media,
+                       uint16_t controller);
+
+/* A record that an older library may have kept, taken over: one in Failed without a reason, its bytes 38 to 63 zero, as layout 1
+ * has it, becomes Idle with received 0; every other byte, and every byte of any other record, stays as it is. Once, after an
+ * update of the library, before anything else; a second time changes nothing. Where the record is in slots, as step 2 of "Each
+ * time that power comes back", under "Power loss".
  *
  * Reads:   record.
  * Writes:  record, where it is in Failed without a reason.
- * Answers: 0; MODULE_R3 where the bytes are no possible record of this library nor of the one before. */
+ * Answers: 0; MODULE_R3 where the bytes are no possible record of this library nor of an older one. */
 int32_t module_adopt(uint8_t *record, size_t record_len);
 
 /* ---- Power loss ----
@@ -239,8 +267,8 @@ int32_t module_adopt(uint8_t *record, size_t record_len);
  *      d. Flush the selector: before the host gets its answer, or a context that was answered could be given again; and
  *         before the next slots_write, or that would write the slot which in memory is still the selected one.
  *   3. Give the host its answer.
- * A tick: module_tick, then keep the record. Where a function has left every byte of the record as it was, there is nothing
- * to keep.
+ * A tick: module_tick, then keep the record. A reading: module_reading, then keep the record; else a power loss brings the
+ * reading before it back. Where a function has left every byte of the record as it was, there is nothing to keep.
  *
  * The area may tear, or be lost with ordinary memory, and needs no flush: after a power cycle the module is Idle with no
  * bytes received, and nothing of the area is read before it has been sent again. A staged version is a number in the record.
