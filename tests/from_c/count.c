@@ -2,9 +2,10 @@
  *
  *     count WHAT SIDE TIMES
  *
- * WHAT is send (a Send of 512 bytes), info (a Get FW Info), tick (the tick that verifies an image of 16,384 bytes), keep (the
- * record written to its slot, and that selected) or read (the record read from its slot); SIDE is library, independent, or
- * none, which makes no call: what is left is the work around the calls. */
+ * WHAT is send (a Send of 512 bytes), info (a Get FW Info), health (function 1, all three alarms on), reading (a health reading),
+ * tick (the tick that verifies an image of 16,384 bytes), keep (the record written to its slot, and that selected) or read (the
+ * record read from its slot); SIDE is library, independent, or none, which makes no call: what is left is the work around the
+ * calls. */
 #include <stdlib.h>
 #include <string.h>
 
@@ -37,6 +38,10 @@ static void prepare(const char *what)
     device.running = 1;
     device.contexts = 1;
     device.phase = RECEIVING;
+    device.enable = 7;
+    device.spare = 10;
+    device.media = 560;
+    device.controller = 0x8010;
     if (strcmp(what, "tick") == 0) {
         make_image();
         device.phase = VERIFYING;
@@ -72,6 +77,19 @@ static int32_t independent_info(void)
     return independent_call(record, sizeof record, area, sizeof area, 2, MODULE_GET_FW_INFO, request, 0, answer, sizeof answer);
 }
 
+static int32_t library_health(void)
+{
+    return module_call(record, sizeof record, area, sizeof area, 2, MODULE_GET_HEALTH, request, 0, answer, sizeof answer);
+}
+
+static int32_t independent_health(void)
+{
+    return independent_call(record, sizeof record, area, sizeof area, 2, MODULE_GET_HEALTH, request, 0, answer, sizeof answer);
+}
+
+static int32_t library_reading(void) { return module_reading(record, sizeof record, area, sizeof area, 80, 640, 0x8018); }
+static int32_t independent_sensors(void) { return independent_reading(record, sizeof record, area, sizeof area, 80, 640, 0x8018); }
+
 static int32_t library_tick(void) { return module_tick(record, sizeof record, area, sizeof area); }
 static int32_t independent_ticked(void) { return independent_tick(record, sizeof record, area, sizeof area); }
 static int32_t none(void) { return 0; }
@@ -97,11 +115,13 @@ static const struct work {
     const char *what, *side;
     int32_t (*make)(void);
 } works[] = {
-    {"send", "library", library_send}, {"send", "independent", independent_send},  {"send", "none", none},
-    {"info", "library", library_info}, {"info", "independent", independent_info},  {"info", "none", none},
-    {"tick", "library", library_tick}, {"tick", "independent", independent_ticked}, {"tick", "none", none},
-    {"keep", "library", library_keep}, {"keep", "independent", independent_keep},  {"keep", "none", none},
-    {"read", "library", library_read}, {"read", "independent", independent_read},  {"read", "none", none},
+    {"send", "library", library_send},       {"send", "independent", independent_send},            {"send", "none", none},
+    {"info", "library", library_info},       {"info", "independent", independent_info},            {"info", "none", none},
+    {"health", "library", library_health},   {"health", "independent", independent_health},        {"health", "none", none},
+    {"reading", "library", library_reading}, {"reading", "independent", independent_sensors},      {"reading", "none", none},
+    {"tick", "library", library_tick},       {"tick", "independent", independent_ticked},          {"tick", "none", none},
+    {"keep", "library", library_keep},       {"keep", "independent", independent_keep},            {"keep", "none", none},
+    {"read", "library", library_read},       {"read", "independent", independent_read},            {"read", "none", none},
 };
 
 static bool accepted(const struct work *work)

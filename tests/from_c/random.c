@@ -111,6 +111,35 @@ static uint32_t make_image(void)
     return 128 * count;
 }
 
+/* ---- Temperatures ---- */
+
+/* A word, most often near another: the same, of the other sign, one off, nothing of either sign, the ends; else any. */
+static uint16_t word_near(uint16_t other)
+{
+    switch (below(10)) {
+    case 0: return 0x0000;
+    case 1: return 0x8000;
+    case 2: return other;
+    case 3: return other ^ 0x8000;
+    case 4: return (uint16_t)(other + 1);
+    case 5: return (uint16_t)(other - 1);
+    case 6: return percent(50) ? 0x7FFF : 0xFFFF;
+    default: return (uint16_t)next();
+    }
+}
+
+/* A spare of 0 to 100, most often near another. */
+static uint8_t spare_near(uint8_t other)
+{
+    uint64_t near = other + below(3);
+
+    return (uint8_t)(percent(40) || near == 0 || near > 101 ? below(101) : near - 1);
+}
+
+/* What is in the record now, be it a threshold or a reading. */
+static uint8_t byte_kept(size_t at) { return record.length == RECORD_BYTES ? mine(&record)[at] : 0; }
+static uint16_t word_kept(size_t at) { return record.length == RECORD_BYTES ? get16(mine(&record) + at) : 0; }
+
 /* A possible record. */
 static void possible_record(void)
 {
@@ -135,8 +164,11 @@ static void possible_record(void)
     }
     device.enable = (uint16_t)below(8);
     device.spare = (uint8_t)below(101);
-    device.media = (uint16_t)next();
-    device.controller = (uint16_t)next();
+    device.media = word_near(0);
+    device.controller = word_near(0);
+    device.read_spare = spare_near(device.spare);
+    device.read_media = word_near(device.media);
+    device.read_controller = word_near(device.controller);
     device.enabled = percent(70);
     device.locked = device.enabled && percent(40);
     device.frozen = percent(15);
@@ -147,17 +179,17 @@ static void possible_record(void)
     record_encode(&device, mine(&record));
 }
 
-/* What a record's fault can have wrong. */
-enum bad_fault { NOTHING, NO_REASON, REASON_6, RECORD_128, REASON_ELSEWHERE, RECORD_ELSEWHERE, BAD_FAULTS };
+/* What a record's fault and its reading can have wrong. */
+enum bad_field { NOTHING, NO_REASON, REASON_6, RECORD_128, REASON_ELSEWHERE, RECORD_ELSEWHERE, SPARE_OVER_100, BAD_FIELDS };
 
-static enum bad_fault bad_fault;
+static enum bad_field bad_field;
 
 static void spoil_fault(void)
 {
     uint8_t *at = mine(&record);
 
-    bad_fault = at[0] == FAILED ? NO_REASON + below(3) : REASON_ELSEWHERE + below(2);
-    switch (bad_fault) {
+    bad_field = at[0] == FAILED ? NO_REASON + below(3) : REASON_ELSEWHERE + below(2);
+    switch (bad_field) {
     case NO_REASON: at[38] = 0, at[39] = percent(50) ? 0 : at[39]; break;
     case REASON_6: at[38] = 6; break;
     case RECORD_128: at[39] = 128; break;
@@ -166,26 +198,34 @@ static void spoil_fault(void)
     }
 }
 
+static void spoil_reading(void)
+{
+    bad_field = SPARE_OVER_100;
+    mine(&record)[40] = (uint8_t)(percent(50) ? 101 : 101 + below(155));
+}
+
 /* A record with something wrong, or nearly. */
 static void spoil_record(void)
 {
     uint8_t *at = mine(&record);
 
-    switch (below(6)) {
+    switch (below(7)) {
     case 0: at[below(record.length)] ^= (uint8_t)(1 << below(8)); break;
     case 1: at[below(6)] = (uint8_t)below(12); break;
-    case 2: at[below(40)] = (uint8_t)next(); break;
-    case 3: at[percent(50) ? 33 : percent(50) ? 40 + below(24) : 96 + below(32)] = (uint8_t)next(); break;
+    case 2: at[below(46)] = (uint8_t)next(); break;
+    case 3: at[percent(50) ? 33 + 8 * below(2) : percent(50) ? 46 + below(18) : 96 + below(32)] = (uint8_t)next(); break;
     case 4: put(at + 12, 4, 16384 + below(3)); break;
     case 5: spoil_fault(); break;
+    case 6: spoil_reading(); break;
     }
 }
 
-/* A record that the library before this one may have kept: in Failed it has no fault. Now and then something is wrong with it. */
+/* A record that an older library may have kept: the first had no fault in Failed, and no reading. Now and then something is wrong
+ * with it, or it has a reading all the same. */
 static void old_record(void)
 {
     possible_record();
-    mine(&record)[38] = mine(&record)[39] = 0;
+    memset(mine(&record) + 38, 0, percent(75) ? 8 : 2);
     if (percent(25))
         spoil_record();
 }
@@ -221,9 +261,10 @@ static void choose_record(void)
         record.length = odd_length(RECORD_BYTES);
 }
 
-static void choose_area(void)
+/* The area as it was, but for so many of a hundred turns. */
+static void choose_area(unsigned anew)
 {
-    if (area.length == MODULE_AREA_SIZE && !percent(1))
+    if (area.length == MODULE_AREA_SIZE && !percent(anew))
         return;
     renew(&area, percent(80) ? MODULE_AREA_SIZE : odd_length(MODULE_AREA_SIZE));
 }
@@ -303,7 +344,9 @@ static void choose_request(uint64_t function)
         break;
     case MODULE_SET_THRESHOLD:
         renew(&request, 7);
-        mine(&request)[2] = (uint8_t)(percent(80) ? below(101) : 100 + below(156));
+        mine(&request)[2] = (uint8_t)(percent(80) ? spare_near(byte_kept(40)) : 100 + below(156));
+        put(mine(&request) + 3, 2, word_near(word_kept(42)));
+        put(mine(&request) + 5, 2, word_near(word_kept(44)));
         break;
     case MODULE_SET_PASSPHRASE:
         renew(&request, 2 * MODULE_PASSPHRASE_SIZE);
@@ -320,17 +363,19 @@ static void choose_request(uint64_t function)
 
 /* ---- One turn ---- */
 
-enum event { FRESH, CALL, TICK, POWER, ADOPT, SLOTS_FRESH, SLOTS_WRITE, SLOTS_SELECT, SLOTS_READ, EVENTS };
+enum event { FRESH, CALL, TICK, POWER, READING, ADOPT, SLOTS_FRESH, SLOTS_WRITE, SLOTS_SELECT, SLOTS_READ, EVENTS };
 
 struct turn {
     enum event event;
     uint64_t revision, function, slot;
+    uint8_t spare;
+    uint16_t media, controller;
     int32_t given[SIDES];
 };
 
 static uint64_t choose_function(void)
 {
-    static const uint8_t served[] = {0, 2, 12, 13, 14, 14, 14, 14, 15, 15, 16, 16, 17, 19, 20, 20, 21, 22, 23};
+    static const uint8_t served[] = {0, 1, 1, 2, 12, 13, 14, 14, 14, 14, 15, 15, 16, 16, 17, 19, 20, 20, 21, 22, 23};
     uint64_t function = served[below(sizeof served)];
 
     if (percent(94))
@@ -338,8 +383,10 @@ static uint64_t choose_function(void)
     return percent(50) ? below(40) : percent(50) ? function + ((uint64_t)1 << (8 + below(56))) : next();
 }
 
-static uint64_t choose_revision(void)
+static uint64_t choose_revision(uint64_t function)
 {
+    if (function == MODULE_GET_HEALTH && percent(40))
+        return 1 + below(3);
     if (percent(92))
         return 2;
     return percent(60) ? 1 : percent(50) ? below(5) : percent(50) ? 2 + ((uint64_t)1 << (8 + below(56))) : next();
@@ -350,8 +397,16 @@ static enum event choose_event(void)
     unsigned kind = (unsigned)below(100);
 
     if (kind < 92)
-        return kind < 1 ? FRESH : kind < 71 ? CALL : kind < 86 ? TICK : kind < 90 ? POWER : ADOPT;
+        return kind < 1 ? FRESH : kind < 65 ? CALL : kind < 79 ? TICK : kind < 83 ? POWER : kind < 90 ? READING : ADOPT;
     return kind < 93 ? SLOTS_FRESH : kind < 96 ? SLOTS_WRITE : kind < 98 ? SLOTS_SELECT : SLOTS_READ;
+}
+
+/* A reading near the thresholds that it will be held to; its spare is now and then over 100. */
+static void choose_reading(struct turn *turn)
+{
+    turn->spare = percent(75) ? spare_near(byte_kept(32)) : (uint8_t)(100 + below(percent(60) ? 2 : 156));
+    turn->media = word_near(word_kept(34));
+    turn->controller = word_near(word_kept(36));
 }
 
 static struct turn choose(void)
@@ -359,19 +414,20 @@ static struct turn choose(void)
     struct turn turn = {.event = choose_event()};
 
     good_image = false;
-    bad_fault = NOTHING;
-    choose_area();
+    bad_field = NOTHING;
+    choose_area(turn.event == READING ? 8 : 1);
     choose_record();
     if (turn.event == ADOPT && percent(60))
         old_record();
     choose_slots();
     if (good_image)
         turn.event = TICK;
-    turn.revision = choose_revision();
     turn.function = choose_function();
+    turn.revision = choose_revision(turn.function);
+    choose_reading(&turn);
     turn.slot = choose_slot();
     choose_request(turn.function);
-    renew(&answer, percent(92) ? 64 + below(40) : below(66));
+    renew(&answer, percent(92) ? MODULE_ANSWER_LEAST + below(40) : below(MODULE_ANSWER_LEAST + 2));
     return turn;
 }
 
@@ -383,6 +439,7 @@ static int32_t by_library(const struct turn *turn)
     case FRESH: return module_fresh(r, record.length);
     case TICK: return module_tick(r, record.length, a, area.length);
     case POWER: return module_power(r, record.length, a, area.length);
+    case READING: return module_reading(r, record.length, a, area.length, turn->spare, turn->media, turn->controller);
     case ADOPT: return module_adopt(r, record.length);
     case SLOTS_FRESH: return slots_fresh(s, slots.length);
     case SLOTS_WRITE: return slots_write(s, slots.length, r, record.length);
@@ -402,6 +459,7 @@ static int32_t by_independent(const struct turn *turn)
     case FRESH: return independent_fresh(r, record.length);
     case TICK: return independent_tick(r, record.length, a, area.length);
     case POWER: return independent_power(r, record.length, a, area.length);
+    case READING: return independent_reading(r, record.length, a, area.length, turn->spare, turn->media, turn->controller);
     case ADOPT: return independent_adopt(r, record.length);
     case SLOTS_FRESH: return independent_slots_fresh(s, slots.length);
     case SLOTS_WRITE: return independent_slots_write(s, slots.length, r, record.length);
@@ -453,17 +511,17 @@ static const char *fault(const struct turn *turn, const struct buffer **where)
     return untouched(&request, 0) ? NULL : "the request was written";
 }
 
-static const char *const names[] = {"fresh",       "calls",       "ticks",        "power cycles", "adoptions",
-                                    "slots_fresh", "slots_write", "slots_select", "slots_read"};
+static const char *const names[] = {"fresh",     "calls",       "ticks",       "power cycles", "readings",
+                                    "adoptions", "slots_fresh", "slots_write", "slots_select", "slots_read"};
 
 static void show(const struct turn *turn, uint64_t number, const char *what, const struct buffer *where)
 {
     size_t i = 0;
 
     printf("turn %llu: %s (%s)\n", (unsigned long long)number, what, where->name);
-    printf("%s revision %llu function %llu slot %llu: library %d, independent %d\n", names[turn->event],
-           (unsigned long long)turn->revision, (unsigned long long)turn->function, (unsigned long long)turn->slot,
-           (int)turn->given[0], (int)turn->given[1]);
+    printf("%s revision %llu function %llu slot %llu spare %u media %04x controller %04x: library %d, independent %d\n",
+           names[turn->event], (unsigned long long)turn->revision, (unsigned long long)turn->function,
+           (unsigned long long)turn->slot, turn->spare, turn->media, turn->controller, (int)turn->given[0], (int)turn->given[1]);
     while (i + 1 < whole(where) && where->side[0][i] == where->side[1][i])
         i++;
     printf("first byte that differs: %d: library %u, independent %u, before %u\n", (int)i - (int)where->at, where->side[0][i],
@@ -478,33 +536,76 @@ static void show(const struct turn *turn, uint64_t number, const char *what, con
 
 /* ---- What came up ---- */
 
-static uint64_t tally[EVENTS][16], stagings, failures[SUM_FAULT + 1], refused_faults[BAD_FAULTS], taken_over, left_alone;
+enum { STATUS = 5, TRIPS = 8 }; /* kinds from STATUS on are statuses, or the slots' numbers; the trips byte has three bits */
 
-/* Answers by kind: 1 to 3 the R numbers, or 1 a refusal of the slots; 4 on the statuses, or the slots' numbers. */
+static uint64_t tally[EVENTS][32], stagings, failures[SUM_FAULT + 1], refused_fields[BAD_FIELDS], taken_over, left_alone;
+static uint64_t with_reading;   /* Failed without a reason, but with a reading: not taken over */
+static uint64_t trips[TRIPS];   /* function 1 accepted, by what it told */
+static uint64_t health[4];      /* function 1 answered, by revision */
+static uint64_t over_100[5];    /* readings of spare over 100, by R number */
+
+/* Answers by kind: 1 to 4 the R numbers, or 1 a refusal of the slots. */
+static unsigned kind_of(const struct turn *turn)
+{
+    if (turn->given[0] < 0)
+        return (unsigned)-turn->given[0];
+    if (turn->event == CALL)
+        return turn->function == 0 ? STATUS : STATUS + get16(lent(&answer, 0));
+    return turn->event >= SLOTS_FRESH ? STATUS + (unsigned)turn->given[0] : 0;
+}
+
+static void count_health(const struct turn *turn, unsigned kind)
+{
+    if (turn->event == READING && turn->spare > SPARE_MOST)
+        over_100[kind]++;
+    if (turn->event != CALL || turn->function != MODULE_GET_HEALTH || kind < STATUS)
+        return;
+    if (turn->revision < 4)
+        health[turn->revision]++;
+    if (kind == STATUS)
+        trips[lent(&answer, 0)[15] % TRIPS]++;
+}
+
+static void count_adoption(unsigned kind)
+{
+    const uint8_t *was = mine(&record);
+
+    taken_over += kind == 0 && !untouched(&record, 0);
+    left_alone += kind == 0 && untouched(&record, 0);
+    with_reading += kind == 3 && record.length == RECORD_BYTES && was[0] == FAILED && all_zero(was + 38, 2)
+        && !all_zero(was + 40, 6);
+}
+
 static void count(const struct turn *turn)
 {
     const uint8_t *after = lent(&record, 0);
-    unsigned kind = turn->given[0] < 0 ? (unsigned)-turn->given[0] : 0;
+    unsigned kind = kind_of(turn);
 
-    if (kind == 0 && turn->event == CALL)
-        kind = turn->function == 0 ? 4 : 4 + get16(lent(&answer, 0));
-    if (kind == 0 && turn->event >= SLOTS_FRESH)
-        kind = 4 + (unsigned)turn->given[0];
-    tally[turn->event][kind & 15]++;
+    tally[turn->event][kind & 31]++;
+    count_health(turn, kind);
     if (turn->event == TICK && kind == 0 && mine(&record)[0] == VERIFYING) {
         stagings += after[0] == STAGED;
         failures[after[0] == FAILED ? after[38] : NO_FAULT]++;
     }
-    if (turn->event == ADOPT && kind == 0) {
-        taken_over += !untouched(&record, 0);
-        left_alone += untouched(&record, 0);
-    }
-    if (turn->event != ADOPT && kind == 3)
-        refused_faults[bad_fault]++;
+    if (turn->event == ADOPT)
+        count_adoption(kind);
+    else if (kind == 3)
+        refused_fields[bad_field]++;
 }
 
 static const char *const reasons[] = {"none", "size", "number", "count", "version", "sum"};
-static const char *const bad_faults[] = {"nothing", "no reason in Failed", "reason 6", "record 128", "a reason elsewhere", "a record elsewhere"};
+static const char *const bad_fields[] = {"nothing", "no reason in Failed", "reason 6", "record 128", "a reason elsewhere",
+                                         "a record elsewhere", "a reading's spare over 100"};
+
+static void report_health(void)
+{
+    printf("function 1: revision 1 %llu, revision 2 %llu, revision 3 %llu; trips", (unsigned long long)health[1],
+           (unsigned long long)health[2], (unsigned long long)health[3]);
+    for (int told = 0; told < TRIPS; told++)
+        printf(" %d: %llu%s", told, (unsigned long long)trips[told], told < TRIPS - 1 ? "," : "\n");
+    printf("readings of spare over 100: R2 %llu, R3 %llu, R4 %llu\n", (unsigned long long)over_100[2],
+           (unsigned long long)over_100[3], (unsigned long long)over_100[4]);
+}
 
 static void report(uint64_t turns)
 {
@@ -513,21 +614,25 @@ static void report(uint64_t turns)
         uint64_t *row = tally[event];
         printf("%s: R1 %llu, R2 %llu, R3 %llu", names[event], (unsigned long long)row[1], (unsigned long long)row[2],
                (unsigned long long)row[3]);
+        if (event == READING)
+            printf(", R4 %llu", (unsigned long long)row[4]);
         if (event != CALL)
             printf(", done %llu\n", (unsigned long long)row[0]);
         for (int status = 0; event == CALL && status < 12; status++)
-            if (row[4 + status])
-                printf(", status %d %llu", status, (unsigned long long)row[4 + status]);
+            if (row[STATUS + status])
+                printf(", status %d %llu", status, (unsigned long long)row[STATUS + status]);
         if (event == CALL)
             printf("\n");
     }
     for (int event = SLOTS_FRESH; event < EVENTS; event++)
         printf("%s: refused %llu, 0 %llu, 1 %llu\n", names[event], (unsigned long long)tally[event][1],
-               (unsigned long long)tally[event][4], (unsigned long long)tally[event][5]);
+               (unsigned long long)tally[event][STATUS], (unsigned long long)tally[event][STATUS + 1]);
     printf("verified: %llu staged; failed by", (unsigned long long)stagings);
     for (int reason = SIZE_FAULT; reason <= SUM_FAULT; reason++)
         printf(" %s %llu%s", reasons[reason], (unsigned long long)failures[reason], reason < SUM_FAULT ? "," : "\n");
-    printf("adopted: %llu taken over, %llu left as they were\n", (unsigned long long)taken_over, (unsigned long long)left_alone);
+    printf("adopted: %llu taken over, %llu left as they were, %llu refused for a reading\n", (unsigned long long)taken_over,
+           (unsigned long long)left_alone, (unsigned long long)with_reading);
+    report_health();
 }
 
 /* So many turns come to each of these ten times or so at least, whatever the seed. A run that never did has compared less than
@@ -539,13 +644,16 @@ static const struct {
     uint8_t kind;
     const char *what;
 } must[] = {
-    {FRESH, 3, "R3"},           {CALL, 1, "R1"},             {CALL, 2, "R2"},             {CALL, 3, "R3"},
-    {CALL, 4 + 0, "status 0"},  {CALL, 4 + 1, "status 1"},   {CALL, 4 + 3, "status 3"},   {CALL, 4 + 6, "status 6"},
-    {CALL, 4 + 7, "status 7"},  {CALL, 4 + 8, "status 8"},   {CALL, 4 + 10, "status 10"}, {CALL, 4 + 11, "status 11"},
-    {TICK, 2, "R2"},            {TICK, 3, "R3"},             {POWER, 2, "R2"},            {POWER, 3, "R3"},
-    {ADOPT, 3, "R3"},           {SLOTS_FRESH, 1, "-1"},      {SLOTS_FRESH, 4, "0"},       {SLOTS_WRITE, 1, "-1"},
-    {SLOTS_WRITE, 4, "0"},      {SLOTS_WRITE, 5, "1"},       {SLOTS_SELECT, 1, "-1"},     {SLOTS_SELECT, 4, "0"},
-    {SLOTS_READ, 1, "-1"},      {SLOTS_READ, 4, "0"},
+    {FRESH, 3, "R3"},              {CALL, 1, "R1"},                  {CALL, 2, "R2"},
+    {CALL, 3, "R3"},               {CALL, STATUS + 0, "status 0"},   {CALL, STATUS + 1, "status 1"},
+    {CALL, STATUS + 3, "status 3"}, {CALL, STATUS + 6, "status 6"},  {CALL, STATUS + 7, "status 7"},
+    {CALL, STATUS + 8, "status 8"}, {CALL, STATUS + 10, "status 10"}, {CALL, STATUS + 11, "status 11"},
+    {TICK, 2, "R2"},               {TICK, 3, "R3"},                  {POWER, 2, "R2"},
+    {POWER, 3, "R3"},              {READING, 2, "R2"},               {READING, 3, "R3"},
+    {READING, 4, "R4"},            {READING, 0, "a reading kept"},   {ADOPT, 3, "R3"},
+    {SLOTS_FRESH, 1, "-1"},        {SLOTS_FRESH, STATUS, "0"},       {SLOTS_WRITE, 1, "-1"},
+    {SLOTS_WRITE, STATUS, "0"},    {SLOTS_WRITE, STATUS + 1, "1"},   {SLOTS_SELECT, 1, "-1"},
+    {SLOTS_SELECT, STATUS, "0"},   {SLOTS_READ, 1, "-1"},            {SLOTS_READ, STATUS, "0"},
 };
 
 static bool reached(uint64_t count, const char *who, const char *what)
@@ -555,19 +663,37 @@ static bool reached(uint64_t count, const char *who, const char *what)
     return count != 0;
 }
 
+/* Function 1 at each revision, every trips byte, and a spare over 100 behind each R number. */
+static bool reached_health(void)
+{
+    static const char *const revisions[] = {"", "revision 1", "revision 2", "revision 3"};
+    static const char *const told[] = {"trips 0", "trips 1", "trips 2", "trips 3", "trips 4", "trips 5", "trips 6", "trips 7"};
+    static const char *const numbers[] = {"", "", "R2", "R3", "R4"};
+    bool all = true;
+
+    for (int revision = 1; revision < 4; revision++)
+        all &= reached(health[revision], "function 1", revisions[revision]);
+    for (int i = 0; i < TRIPS; i++)
+        all &= reached(trips[i], "function 1", told[i]);
+    for (int number = 2; number < 5; number++)
+        all &= reached(over_100[number], "a reading of spare over 100", numbers[number]);
+    return all;
+}
+
 static bool reached_all(void)
 {
-    bool all = true;
+    bool all = reached_health();
 
     for (size_t i = 0; i < sizeof must / sizeof *must; i++)
         all &= reached(tally[must[i].event][must[i].kind], names[must[i].event], must[i].what);
     all &= reached(stagings, names[TICK], "a staging");
     for (int reason = SIZE_FAULT; reason <= SUM_FAULT; reason++)
         all &= reached(failures[reason], "failed by", reasons[reason]);
-    for (int wrong = NO_REASON; wrong < BAD_FAULTS; wrong++)
-        all &= reached(refused_faults[wrong], "R3 for", bad_faults[wrong]);
+    for (int wrong = NO_REASON; wrong < BAD_FIELDS; wrong++)
+        all &= reached(refused_fields[wrong], "R3 for", bad_fields[wrong]);
     all &= reached(taken_over, names[ADOPT], "a record taken over");
     all &= reached(left_alone, names[ADOPT], "a record left as it was");
+    all &= reached(with_reading, names[ADOPT], "R3 for a reading in Failed without a reason");
     return all;
 }
 
