@@ -5,7 +5,8 @@
  * The slots stand in memory that outlives power, and what the functions write reaches it byte by byte where the caller flushes.
  * Power goes before each of those bytes and before each flush returns, with the bytes of a flush in three orders; then all
  * other memory is lost, the record is read from its slots, and whole updates follow, cut once more on the way. No context may
- * be answered twice, and no record be read but the one before the event that power cut or the one after it.
+ * be answered twice, no record be read but the one before the event that power cut or the one after it, and no reading be lost
+ * that was kept.
  *
  * Four wrong ways to keep a record are cut in the same way, and each must be found out: else the cuts would show nothing. */
 #include <stdio.h>
@@ -65,7 +66,7 @@ static bool flush(size_t at, size_t length)
 
 static uint8_t old[MODULE_RECORD_SIZE], new[MODULE_RECORD_SIZE]; /* what may be read, should power go */
 static bool wrong;                                               /* nothing more is to be had of this update */
-static uint64_t cuts, read_old, read_new, mixtures, twice;
+static uint64_t cuts, read_old, read_new, mixtures, twice, lost;
 
 static bool stop(void)
 {
@@ -226,8 +227,27 @@ static bool verify(void)
     return true;
 }
 
+/* A health reading, another one in each transfer. */
+static uint8_t spare(void) { return (uint8_t)(answered % 101); }
+
+static bool read_sensors(void)
+{
+    if (module_reading(record, sizeof record, area, sizeof area, spare(), 640, 0x8018) != 0)
+        return stop();
+    return keep();
+}
+
 /* The version that Query or Get FW Info has told. */
 static bool told(int at) { return get64(answer + at) == VERSION || stop(); }
+
+/* Function 1 tells the reading that was kept before the power cycle. */
+static bool told_reading(void)
+{
+    if (!call(MODULE_GET_HEALTH, image, 0, MODULE_ACCEPTED))
+        return false;
+    lost += answer[13] != spare() || get16(answer + 16) != 640 || get16(answer + 18) != 0x8018;
+    return true;
+}
 
 static bool transfer(void)
 {
@@ -236,8 +256,9 @@ static bool transfer(void)
     if (!start() || !call(MODULE_START, image, 0, MODULE_OUT_OF_TURN) || !send_image() || !finish(0) || !verify())
         return false;
     put32(context, answered);
-    return call(MODULE_QUERY, context, sizeof context, MODULE_ACCEPTED) && told(4) && power_up()
-        && call(MODULE_GET_FW_INFO, image, 0, MODULE_ACCEPTED) && told(28);
+    return call(MODULE_QUERY, context, sizeof context, MODULE_ACCEPTED) && told(4) && read_sensors() && power_up()
+        && call(MODULE_GET_FW_INFO, image, 0, MODULE_ACCEPTED) && told(28)
+        && told_reading() && read_sensors();
 }
 
 /* Two transfers, so that power goes in one that follows another. */
@@ -285,7 +306,7 @@ static bool cut_at(uint32_t cut)
 /* Every cut, in each order. False where something was refused or told that must not be, before any mixture could be why. */
 static bool cut_all(void)
 {
-    cuts = read_old = read_new = mixtures = twice = 0;
+    cuts = read_old = read_new = mixtures = twice = lost = 0;
     for (order = UP; order < ORDERS; order++)
         for (uint32_t cut = 0; cut_at(cut); cut++)
             if (wrong && mixtures + twice == 0) {
@@ -298,7 +319,7 @@ static bool cut_all(void)
 static bool as_it_must_be(void)
 {
     switch (way) {
-    case AS_THE_HEADER_SAYS: return mixtures == 0 && twice == 0;
+    case AS_THE_HEADER_SAYS: return mixtures == 0 && twice == 0 && lost == 0;
     case ANSWERED_BEFORE_KEPT: return mixtures == 0 && twice > 0;
     default: return mixtures > 0 && twice > 0;
     }
@@ -311,9 +332,9 @@ int main(void)
         if (!begin())
             return 2;
         bool right = cut_all() && as_it_must_be();
-        printf("%s: %llu cuts; read: old record %llu, new record %llu, mixture %llu; contexts given twice %llu\n",
+        printf("%s: %llu cuts; read: old record %llu, new record %llu, mixture %llu; contexts given twice %llu; readings lost %llu\n",
                way_names[way], (unsigned long long)cuts, (unsigned long long)read_old, (unsigned long long)read_new,
-               (unsigned long long)mixtures, (unsigned long long)twice);
+               (unsigned long long)mixtures, (unsigned long long)twice, (unsigned long long)lost);
         if (!right) {
             printf("%s: not as it must be\n", way_names[way]);
             return 1;
