@@ -18,7 +18,8 @@
  * contexts from 1 again, and a late piece of one transfer could land in another's. The area may begin with any bytes.
  *
  * After an update of this library, where MODULE_RECORD_LAYOUT is another number than the one kept beside the record:
- * module_adopt, once, before anything else.
+ * module_adopt, once, before anything else. Its callers are built again with this header: MODULE_ANSWER_LEAST was 64 under
+ * layouts 1 and 2, and such a buffer gives R1 to every call now.
  *
  * The library calls memcpy and memset, and nothing else.
  */
@@ -212,9 +213,9 @@ int32_t module_tick(uint8_t *record, size_t record_len, const uint8_t *area, siz
  * Answers: 0; MODULE_R2 or MODULE_R3. */
 int32_t module_power(uint8_t *record, size_t record_len, const uint8_t *area, size_t area_len);
 
-/* One health reading: the spare, and two temperature words. The record keeps the last one, power cycles too, and answers
- * MODULE_GET_HEALTH from it. It is no host's call: make it whenever the module's own sensors have been read, in any phase and any
- * security state, then keep the record, as under "Power loss".
+/* One health reading: the spare, and two temperature words. The record keeps the last one, through every power cycle, and
+ * MODULE_GET_HEALTH is answered from it. It is no host's call: make it whenever the module's own sensors have been read, in any
+ * phase and any security state, then keep the record, as under "Power loss".
  *
  * Reads:   record, the length of the area; none of its bytes.
  * Writes:  record; bytes 40 and 42 to 45 may change, and no other.
