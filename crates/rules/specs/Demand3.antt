@@ -23,7 +23,7 @@ abbrev pub freshWith : (area : List ℕ) → Module
 freshWith area = moduleOf fresh area
 
 -- "Strike out the refused calls except wrong passphrases." R numbers are refusals; a reading that one refuses is struck
--- out too, though it is no call (docs/DECISIONS.md, B20). A wrong passphrase is status 11.
+-- out too, though it is no call (docs/DECISIONS.md, B69). A wrong passphrase is status 11.
 abbrev pub remains : Verdict → Bool
 remains Accepted = true
 remains (Refused (R number)) = false
