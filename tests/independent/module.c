@@ -66,7 +66,7 @@ bool device_possible(const struct device *device)
         return false;
     if (!device->enabled && !all_zero(device->passphrase, PASSPHRASE_BYTES))
         return false;
-    return device->attempts <= WRONG_MOST && device->enable <= 7
+    return device->attempts <= WRONG_MOST && device->enable <= ENABLE_ALL
         && device->spare <= SPARE_MOST && device->read_spare <= SPARE_MOST;
 }
 
@@ -134,9 +134,13 @@ static uint32_t get_threshold(const struct device *device, uint8_t *answer)
 
 static uint32_t set_threshold(struct device *device, const uint8_t *request)
 {
+    uint16_t enable = get16(request);
+
+    if (enable > ENABLE_ALL) /* reserved bits */
+        return INVALID;
     if (request[2] > SPARE_MOST)
         return INVALID;
-    device->enable = get16(request) & 7;
+    device->enable = enable;
     device->spare = request[2];
     device->media = get16(request + 3);
     device->controller = get16(request + 5);
@@ -246,6 +250,8 @@ static uint32_t finish(struct device *device, const uint8_t *request)
 {
     uint8_t flag = request[0];
 
+    if (!all_zero(request + 1, 3)) /* reserved bytes */
+        return INVALID;
     if (flag > 1)
         return INVALID;
     if (!live(device, get32(request + 4)))

@@ -16,6 +16,7 @@ enum {
     TICK_MICROSECONDS = 1000,
     WRONG_MOST = 10,
     SPARE_MOST = 100,
+    ENABLE_ALL = 7, /* the three alarms' bits */
     PASSPHRASE_BYTES = 32
 };
 
