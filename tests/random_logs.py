@@ -1,7 +1,8 @@
 """Random logs that lead deep: made(SEED, N) is log N of a seed, always the same.
 
-Whole transfers of 1 to 128 records in odd pieces, good, damaged and damaged twice, which the end names; hosts with right, old and guessed contexts; 7, 8 and 9
-ticks; power cycles in between; passphrases up to and past the limit; freezes; thresholds and readings on both sides of them; bad and short records.
+Whole transfers of 1 to 128 records in odd pieces, good, damaged and damaged twice, which the end names; hosts with right, old
+and guessed contexts; 7, 8 and 9 ticks; power cycles in between; passphrases up to and past the limit; freezes; thresholds and
+readings on both sides of them; reserved bits; bad and short records.
 """
 import random
 
@@ -52,9 +53,9 @@ class Maker:
             self.sent += piece
 
     def finish(self, host, context, flag=0):
-        reserved = self.some_bytes(3) if self.one_in(3) else b""
+        reserved = self.pick(self.some_bytes(3), (1 << self.chance.randrange(24)).to_bytes(3, "little")) if self.one_in(12) else b""
         self.call(host, records.FINISH, records.finish(context, flag, reserved))
-        if self.phase == "receiving" and context == self.contexts:
+        if self.phase == "receiving" and context == self.contexts and not any(reserved):
             if flag == 0:
                 self.phase, self.ticks = "verifying", 8
             elif flag == 1:
@@ -320,8 +321,8 @@ class Maker:
     def thresholds(self):
         word = self.pick(0, 1, 7, 0xFFFF, 0x8000, 0x7FFF, self.chance.getrandbits(16))
         spare = self.pick(0, 1, 50, 99, 100, 100, 101, 101, 128, 255, self.chance.randrange(256))
-        request = records.set_threshold(self.pick(0, 7, 8, 0xFFFF, self.chance.getrandbits(16)), spare, word,
-                                        self.chance.getrandbits(16))
+        enable = self.pick(0, 3, 5, 7, 8, 1 << self.chance.randrange(16), self.chance.getrandbits(16))
+        request = records.set_threshold(enable, spare, word, self.chance.getrandbits(16))
         self.call(self.host(), records.SET_THRESHOLD, request)
         self.call(self.host(), records.GET_THRESHOLD, b"", self.pick(1, 2))
 
