@@ -33,3 +33,4 @@ pub mod Sums
 pub mod Adopting
 pub mod Health
 pub mod LastReading
+pub mod Reserved

@@ -1,5 +1,5 @@
--- Document 01, "Cases for the bench": those marked P, as rows of one list; and document 02, T-04: function 1 and readings. That every row holds is the one claim
--- of proofs/page/Claim.antt.
+-- Document 01, "Cases for the bench": those marked P, as rows of one list; and document 02, T-04: function 1 and readings; T-05: reserved means zero. That every
+-- row holds is the one claim of proofs/page/Claim.antt.
 -- Assumes nothing.
 use Prim.Native.Nat.{ℕ, zero, suc, _+_}
 use mathlib.Core.{Bool.{Bool, true, false, not, _&&_}, List.{List, [], _∷_, _++_}}
@@ -79,8 +79,11 @@ start = ask 13 []
 abbrev send : (offset size : ℕ) (piece : List ℕ) → Event
 send offset size piece = ask 14 (le 4 1 ++ le 4 offset ++ le 4 size ++ piece)
 
+abbrev finish-with : (reserved : List ℕ) → Event
+finish-with reserved = ask 15 (le 1 0 ++ reserved ++ le 4 1)
+
 abbrev finish : Event
-finish = ask 15 (zeros 4 ++ le 4 1)
+finish = finish-with (zeros 3)
 
 abbrev query : Event
 query = ask 16 (le 4 1)
@@ -208,5 +211,21 @@ cases =
     ∷ gives-R 4 (newReading 101 0x0000 0x0000)
     ∷ powering
     ∷ ask 1 [] gets health (0 ∷ 0 ∷ 0 ∷ 0 ∷ 0x1A ∷ 0x02 ∷ 0 ∷ 0 ∷ 0 ∷ 0 ∷ 0 ∷ 0 ∷ 0 ∷ 0 ∷ 0 ∷ 0x02 ∷ 0x01 ∷ 0x00 ∷ 0x01 ∷ 0x80 ∷ [])
+    ∷ [])
+    -- document 02, T-05: a Finish with a nonzero reserved byte while Idle: 3, not 7/1; and while Receiving, which it leaves, each of the three
+    ∷ case (finish-with (0x00 ∷ 0x00 ∷ 0x80 ∷ []) gets status 3 ∷ [])
+    ∷ case
+    (start gets started
+    ∷ finish-with (0x01 ∷ 0x00 ∷ 0x00 ∷ []) gets status 3
+    ∷ finish-with (0x00 ∷ 0x01 ∷ 0x00 ∷ []) gets status 3
+    ∷ finish-with (0x00 ∷ 0x00 ∷ 0x01 ∷ []) gets status 3
+    ∷ finish gets status 0
+    ∷ [])
+    -- and a Set Threshold with enable bit 3, and with bit 15: nothing is stored
+    ∷ case
+    (ask 17 (0x08 ∷ 0x00 ∷ 20 ∷ 0x00 ∷ 0x05 ∷ 0x01 ∷ 0x80 ∷ []) gets status 3
+    ∷ ask 17 (0x00 ∷ 0x80 ∷ 20 ∷ 0x00 ∷ 0x05 ∷ 0x01 ∷ 0x80 ∷ []) gets status 3
+    ∷ ask 2 [] gets zeros 12
+    ∷ ask 17 (0x07 ∷ 0x00 ∷ 20 ∷ 0x00 ∷ 0x05 ∷ 0x01 ∷ 0x80 ∷ []) gets status 0
     ∷ [])
     ∷ []

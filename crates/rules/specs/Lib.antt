@@ -75,3 +75,4 @@ pub mod Made
 -- T-03: the first fault, which a transfer keeps (Transfer.antt), and records from before.
 pub mod Fault
 pub mod Adopt
+pub mod Reserved

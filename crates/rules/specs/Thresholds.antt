@@ -20,17 +20,23 @@ abbrev pub setThresholdOf : (request : List ℕ) → ThresholdCall
 setThresholdOf request =
     SetThreshold (numberAt 2 0 request) (numberAt 1 2 request) (numberAt 2 3 request) (numberAt 2 5 request)
 
--- "Set gives 3 if spare is over 100;"
+-- Document 02, T-05: "Set Threshold with any of enable bits 3 to 15, is refused. Refusals: status 3, in the place of each function's first field check."
+-- It replaces document 01's "Reserved bits and bytes of a request are read past" (docs/DECISIONS.md, B21, B22).
+-- Then "Set gives 3 if spare is over 100;"
 abbrev pub thresholdChecks : ThresholdCall → List Check
 thresholdChecks GetThreshold = []
-thresholdChecks (SetThreshold enable spare media controller) = (100 <? spare gives Status 3 0) ∷ []
+thresholdChecks (SetThreshold enable spare media controller) =
+    (7 <? enable gives Status 3 0)
+    ∷ (100 <? spare gives Status 3 0)
+    ∷ []
 
 -- "Get adds one zero byte."
 abbrev pub thresholdAnswer : Thresholds → ThresholdCall → List ℕ
 thresholdAnswer h GetThreshold = thresholdBytes h ++ zeros 1
 thresholdAnswer h (SetThreshold enable spare media controller) = []
 
--- "else it stores all, with enable bits 3 to 15 cleared." "A temperature word is kept bit for bit". "Reserved bits .. are read past."
+-- "else it stores all, with enable bits 3 to 15 cleared." "A temperature word is kept bit for bit". Since T-05 there is nothing left to clear
+-- (`RequestT05` in Reserved.antt).
 abbrev pub thresholdChange : Thresholds → ThresholdCall → Thresholds
 thresholdChange h GetThreshold = h
 thresholdChange h (SetThreshold enable spare media controller) =

@@ -4,7 +4,7 @@ use Prim.Native.Nat.{ℕ, _+_, _-_, _*_}
 use mathlib.Core.{Bool.{not, _&&_, _||_}, List.{List, [], _∷_, _++_}}
 use lib.ListN.{length, take, drop}
 use Rattle.rules.specs.Tests.{if_then_else_, _<?_, _=?_}
-use Rattle.rules.specs.Bytes.{le, numberAt, zeros, splice}
+use Rattle.rules.specs.Bytes.{le, numberAt, zeros, zeros?, splice}
 use Rattle.rules.specs.Numbers.{areaSize, longestPiece, verification, tickMicroseconds, lastContext}
 use Rattle.rules.specs.With.{_with-phase_, _with-contexts_, _with-received_, _with-ticks_, _with-running_, _with-staged_, _with-reason_, _with-faulty_}
 use Rattle.rules.specs.Record.{_is_, given, current, live}
@@ -17,7 +17,7 @@ pub data TransferCall : Type 0 where
   GetFwInfo : TransferCall
   Start : TransferCall
   Send : (context offset size : ℕ) (piece : List ℕ) → TransferCall
-  Finish : (flag context : ℕ) → TransferCall
+  Finish : (flag : ℕ) (reserved : List ℕ) (context : ℕ) → TransferCall
   Query : (context : ℕ) → TransferCall
 
 -- "Get FW Info after the status: 16,384 (4 bytes); 512 (4); 1,000 (4); 8,000 (4); capability 0 (1); zeros (3); interface version 1 (4); running version
@@ -75,14 +75,17 @@ sendChange t size = t with-received (t .received + size)
 abbrev pub sendArea : (offset : ℕ) (piece area : List ℕ) → List ℕ
 sendArea offset piece area = splice offset piece area
 
--- "Finish: flag (1), reserved (3), context (4)." "Reserved .. bytes of a request are read past."
+-- "Finish: flag (1), reserved (3), context (4)."
 abbrev pub finishOf : (request : List ℕ) → TransferCall
-finishOf request = Finish (numberAt 1 0 request) (numberAt 4 4 request)
+finishOf request = Finish (numberAt 1 0 request) (take 3 (drop 1 request)) (numberAt 4 4 request)
 
--- "Flag over 1: 3. Context not live: 7/1. Phase not Receiving: 7/2."
-abbrev pub finishChecks : Transfer → (flag context : ℕ) → List Check
-finishChecks t flag context =
-    (1 <? flag gives Status 3 0)
+-- Document 02, T-05: "A Finish with a nonzero reserved byte .. is refused. Refusals: status 3, in the place of each function's first field check."
+-- It replaces document 01's "Reserved bits and bytes of a request are read past" (docs/DECISIONS.md, B21, B22).
+-- Then "Flag over 1: 3. Context not live: 7/1. Phase not Receiving: 7/2."
+abbrev pub finishChecks : Transfer → (flag : ℕ) (reserved : List ℕ) (context : ℕ) → List Check
+finishChecks t flag reserved context =
+    (not (zeros? reserved) gives Status 3 0)
+    ∷ (1 <? flag gives Status 3 0)
     ∷ (not (live t context) gives Status 7 1)
     ∷ (not (t .phase is Receiving) gives Status 7 2)
     ∷ []
@@ -115,21 +118,21 @@ abbrev pub transferChecks : Transfer → TransferCall → List Check
 transferChecks t GetFwInfo = []
 transferChecks t Start = startChecks t
 transferChecks t (Send context offset size piece) = sendChecks t context offset size piece
-transferChecks t (Finish flag context) = finishChecks t flag context
+transferChecks t (Finish flag reserved context) = finishChecks t flag reserved context
 transferChecks t (Query context) = queryChecks t context
 
 abbrev pub transferAnswer : Transfer → TransferCall → List ℕ
 transferAnswer t GetFwInfo = fwInfo t
 transferAnswer t Start = startAnswer t
 transferAnswer t (Send context offset size piece) = []
-transferAnswer t (Finish flag context) = []
+transferAnswer t (Finish flag reserved context) = []
 transferAnswer t (Query context) = queryAnswer t
 
 abbrev pub transferChange : Transfer → TransferCall → Transfer
 transferChange t GetFwInfo = t
 transferChange t Start = startChange t
 transferChange t (Send context offset size piece) = sendChange t size
-transferChange t (Finish flag context) = finishChange t flag
+transferChange t (Finish flag reserved context) = finishChange t flag
 transferChange t (Query context) = t
 
 -- "Start .. The area's bytes stay."
@@ -137,7 +140,7 @@ abbrev pub transferArea : TransferCall → (area : List ℕ) → List ℕ
 transferArea GetFwInfo area = area
 transferArea Start area = area
 transferArea (Send context offset size piece) area = sendArea offset piece area
-transferArea (Finish flag context) area = area
+transferArea (Finish flag reserved context) area = area
 transferArea (Query context) area = area
 
 -- "the received bytes"

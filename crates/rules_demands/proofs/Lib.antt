@@ -13,5 +13,6 @@ pub mod Reports
 pub mod Images
 pub mod Faults
 pub mod Health
+pub mod Reserved
 -- That demand 3 is not empty: the incident at sea, computed.
 pub mod Incident

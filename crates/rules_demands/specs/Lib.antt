@@ -14,3 +14,4 @@ pub mod Images
 pub mod Faults
 -- Readings: words by their heights, alarms and function 1 by examples.
 pub mod Health
+pub mod Reserved

@@ -7,6 +7,7 @@ ghost use Rattle.rules.specs.Made.{RequestT02};
 ghost use Rattle.rules.specs.Fault.{RequestT03};
 ghost use Rattle.rules.specs.Adopt.{Adopting};
 ghost use Rattle.rules.specs.Health.{RequestT04};
+ghost use Rattle.rules.specs.Reserved.{RequestT05};
 ghost use Rattle.rules_demands.specs.Calls.{Demand1WrittenOut};
 ghost use Rattle.rules_demands.specs.Histories.{Demand3WrittenOut};
 ghost use Rattle.rules_demands.specs.Beside.{BesideWrittenOut};
@@ -15,6 +16,7 @@ ghost use Rattle.rules_demands.specs.Reports.{ReportsWrittenOut, Reports
 ghost use Rattle.rules_demands.specs.Images.{ImagesWrittenOut, ImagesHeld};
 ghost use Rattle.rules_demands.specs.Faults.{FaultsWrittenOut, AdoptingWrittenOut, FaultsHeld};
 ghost use Rattle.rules_demands.specs.Health.{HealthWrittenOut, HealthHeld};
+ghost use Rattle.rules_demands.specs.Reserved.{ReservedMeansZero, ReservedHeld};
 
 // Any call gets an answer, and a refusal leaves what it must.
 pub fn demand_1()
@@ -69,4 +71,11 @@ pub fn request_t04()
     ensures { λ r. ⌜ RequestT04 ⌝ }
     ensures { λ r. ⌜ HealthWrittenOut ⌝ }
     ensures { λ r. ⌜ HealthHeld ⌝ }
+{}
+
+// Document 02, T-05: what a reserved bit is answered, and that the mask of Set Threshold has nothing left to clear; the same written out; and examples.
+pub fn request_t05()
+    ensures { λ r. ⌜ RequestT05 ⌝ }
+    ensures { λ r. ⌜ ReservedMeansZero ⌝ }
+    ensures { λ r. ⌜ ReservedHeld ⌝ }
 {}

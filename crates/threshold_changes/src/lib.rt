@@ -4,7 +4,7 @@ ghost use lib.ListN.{length};
 ghost use Rattle.rules.specs.Thresholds.{setThresholdOf, thresholdChange};
 use rules::Thresholds;
 
-// Enable bits 3 to 15 are masked off; the temperature words are kept bit for bit.
+// Enable bits 3 to 15 are masked off, the form that the page names: an accepted Set has none of them (T-05). The temperature words are kept bit for bit.
 pub fn set(h: Thresholds, request: &[u8]) -> Thresholds
     requires { ⌜ length (now request) ≡ 7 ⌝ }
     ensures { λ r. ⌜ r ≡ thresholdChange h (setThresholdOf (now (request .entry))) ⌝ }

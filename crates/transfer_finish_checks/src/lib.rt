@@ -14,10 +14,17 @@ pub fn judge_finish(t: Transfer, request: &[u8]) -> Verdict
     let p = t.phase;
     let n = device_phase::phase_number(p);
     let flag = bytes_numbers::byte(request, 0);
+    let first = bytes_numbers::byte(request, 1);
+    let second = bytes_numbers::byte(request, 2);
+    let third = bytes_numbers::byte(request, 3);
     let context = bytes_numbers::word(request, 4);
+    let reserved = !((first == 0) & (second == 0) & (third == 0));
     let over = 1 < flag;
     let dead = !device_phase::live(t, context);
     let out_of_turn = !(n == 1);
+    if reserved {
+        return Verdict::Refused(Refusal::Status { status: 3, ext: 0 });
+    }
     if over {
         return Verdict::Refused(Refusal::Status { status: 3, ext: 0 });
     }

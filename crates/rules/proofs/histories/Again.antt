@@ -22,7 +22,7 @@ at-least c = record { change = change; ticked = λ s g. by-tick (AtLeast c) s g 
     change s a b GetFwInfo v g = g
     change s a b Start v g = omega (arith, g)
     change s a b (Send context offset size piece) v g = g
-    change s a b (Finish flag context) v g = if-both (λ (t : Transfer). c ≤ given t) (flag =? 0) g g
+    change s a b (Finish flag reserved context) v g = if-both (λ (t : Transfer). c ≤ given t) (flag =? 0) g g
     change s a b (Query context) v g = g
 
 -- a Start is answered the number after the last one given out, which then is the last one given out

@@ -59,14 +59,14 @@ held m h p z l =
     (λ n u x q w. held-step (partOf m) n u x q w) m h (total-none (λ x. powerCount (kindOf x)) h z)
     (λ k. record { at = p; count = omega arith; bytes = refl }) l
 
--- what an accepted Finish without abort leaves
+-- what an accepted Finish without abort leaves: its reserved bytes are nothing to it
 pub after-finish : (m : Module) (x : Exchange) (host context : ℕ) → kindOf x ≡ Finished host context 0 → inner .answer m (x .event) ≡ x .got
-    → partOf (inner .next m (x .event)) ≡ partChange (partOf m) (Finish 0 context)
+    → partOf (inner .next m (x .event)) ≡ partChange (partOf m) (Finish 0 [] context)
 after-finish m x host context k p =
     let a : FinishAct (act (x .event)) (x .got) host context 0 = finished-act (act (x .event)) (x .got) host context 0 (sym (kind-act x) ∙ k) in
     ap (λ (z : Act). partOf (nexts m z)) (a .act-is)
-    ∙ changes (partOf m) (a .unserved) (a .misfit) (Finish 0 context)
-    (good-accepted (partOf m) (a .unserved) (a .misfit) (Finish 0 context) (a .n) (a .answer) (x .got) (subst (λ (z : Act). answers m z ≡ x .got) (a .act-is) p) (a .good))
+    ∙ changes (partOf m) (a .unserved) (a .misfit) (Finish 0 (a .reserved) context)
+    (good-accepted (partOf m) (a .unserved) (a .misfit) (Finish 0 (a .reserved) context) (a .n) (a .answer) (x .got) (subst (λ (z : Act). answers m z ≡ x .got) (a .act-is) p) (a .good))
 
 -- A record in Verifying has such a history
 record Waiting (h : History) (s : TransferPart) : Type 0 where
@@ -121,15 +121,15 @@ watch-tick h s x k w (counting q l e) p =
 watch-tick h s x k w (good version q l i e) p = never (sym (ap (λ (z : Phase). z is Verifying) p) ∙ ap (λ (t : Transfer). t .phase is Verifying) e)
 watch-tick h s x k w (bad q l i e) p = never (sym (ap (λ (z : Phase). z is Verifying) p) ∙ ap (λ (t : Transfer). t .phase is Verifying) e)
 
-watch-finish : (h : History) (s : TransferPart) (x : Exchange) (host context flag : ℕ) → kindOf x ≡ Finished host context flag → ContextIs (openAtEnd none h) context → bytesOf s ≡ bytesSoFar (openAtEnd none h)
-    → Watch (h ++ (x ∷ [])) (partChange s (Finish flag context))
+watch-finish : (h : History) (s : TransferPart) (x : Exchange) (host context flag : ℕ) (reserved : List ℕ) → kindOf x ≡ Finished host context flag → ContextIs (openAtEnd none h) context → bytesOf s ≡ bytesSoFar (openAtEnd none h)
+    → Watch (h ++ (x ∷ [])) (partChange s (Finish flag reserved context))
 unfolding Watch
-watch-finish h s x host context flag k o b = go (flag =? 0) refl
+watch-finish h s x host context flag reserved k o b = go (flag =? 0) refl
   where
-    go : (c : Bool) → (flag =? 0) ≡ c → (partChange s (Finish flag context) .transfer .phase ≡ Verifying) → Waiting (h ++ (x ∷ [])) (partChange s (Finish flag context))
+    go : (c : Bool) → (flag =? 0) ≡ c → (partChange s (Finish flag reserved context) .transfer .phase ≡ Verifying) → Waiting (h ++ (x ∷ [])) (partChange s (Finish flag reserved context))
     go true e p =
         let zero-flag : flag ≡ 0 = eqb-true flag 0 e in
-        subst (λ (n : ℕ). Waiting (h ++ (x ∷ [])) (partChange s (Finish n context))) (sym zero-flag)
+        subst (λ (n : ℕ). Waiting (h ++ (x ∷ [])) (partChange s (Finish n reserved context))) (sym zero-flag)
         (record {
           before = h;
           finish = x;
@@ -159,12 +159,12 @@ watch-act h x m (Transfers host a b (Send context offset size piece) n answer) e
     let c = changes (partOf m) a b (Send context offset size piece) v in
     never (sym (ap (λ (z : Phase). z is Verifying) q) ∙ ap (λ (s : TransferPart). s .transfer .phase is Verifying) c
     ∙ ap (λ (z : Phase). z is Verifying) (send-ok (partOf m) a b context offset size piece v .at)))
-watch-act h x m (Transfers host a b (Finish flag context) n answer) e o t w p k =
-    let v = accepted-call (partOf m) a b (Finish flag context) n answer (ap (λ (z : Answer). remains (z .reply .verdict)) p ∙ k) in
-    let kind : kindOf x ≡ Finished host context flag = e ∙ chosen (x .got) (Finished host context flag) (accepted-good (partOf m) a b (Finish flag context) n answer (x .got) p v) in
-    subst (λ (s : TransferPart). Watch (h ++ (x ∷ [])) s) (sym (changes (partOf m) a b (Finish flag context) v))
-    (watch-finish h (partOf m) x host context flag kind (subst (λ (z : Kind). InOrder (openAtEnd none h) z) kind t)
-    (bytes-open (openAtEnd none h) (partOf m) o (finish-ok (partOf m) a b flag context v .at)))
+watch-act h x m (Transfers host a b (Finish flag reserved context) n answer) e o t w p k =
+    let v = accepted-call (partOf m) a b (Finish flag reserved context) n answer (ap (λ (z : Answer). remains (z .reply .verdict)) p ∙ k) in
+    let kind : kindOf x ≡ Finished host context flag = e ∙ chosen (x .got) (Finished host context flag) (accepted-good (partOf m) a b (Finish flag reserved context) n answer (x .got) p v) in
+    subst (λ (s : TransferPart). Watch (h ++ (x ∷ [])) s) (sym (changes (partOf m) a b (Finish flag reserved context) v))
+    (watch-finish h (partOf m) x host context flag reserved kind (subst (λ (z : Kind). InOrder (openAtEnd none h) z) kind t)
+    (bytes-open (openAtEnd none h) (partOf m) o (finish-ok (partOf m) a b flag reserved context v .at)))
 watch-act h x m (Transfers host a b (Query context) n answer) e o t w p k =
     same-watch h (partOf m) (partNext (partOf m) a b (Query context)) x
     (changes (partOf m) a b (Query context) (accepted-call (partOf m) a b (Query context) n answer (ap (λ (z : Answer). remains (z .reply .verdict)) p ∙ k))) e w
@@ -252,7 +252,7 @@ due-waits m h version s o p k d =
     q : Plays inner v last
     q = plays-right inner m pre last (at .played)
 
-    e : partOf (inner .next v (f .finish .event)) ≡ partChange (partOf v) (Finish 0 (f .context))
+    e : partOf (inner .next v (f .finish .event)) ≡ partChange (partOf v) (Finish 0 [] (f .context))
     e = after-finish v (f .finish) (f .finisher) (f .context) (f .finishes ∙ ap (Finished (f .finisher) (f .context)) (d .no-abort)) (q .0)
 
     eight : partOf (inner .next v (f .finish .event)) .transfer .ticks ≡ verification

@@ -62,7 +62,7 @@ abbrev pub UsesAct : History → Act → Type 0
 UsesAct past (Transfers host a b GetFwInfo n answer) = Unit {0}
 UsesAct past (Transfers host a b Start n answer) = Unit {0}
 UsesAct past (Transfers host a b (Send context offset size piece) n answer) = b ≡ false → AnsweredTo host context past
-UsesAct past (Transfers host a b (Finish flag context) n answer) = b ≡ false → AnsweredTo host context past
+UsesAct past (Transfers host a b (Finish flag reserved context) n answer) = b ≡ false → AnsweredTo host context past
 UsesAct past (Transfers host a b (Query context) n answer) = Unit {0}
 UsesAct past (Others a b x n answer) = Unit {0}
 UsesAct past Ticks = Unit {0}

@@ -42,15 +42,15 @@ gone c =
     change s a b GetFwInfo v g = g
     change s a b Start v g = record { old = omega (arith, g .old); other = λ r e. omega (arith, g .old) }
     change s a b (Send context offset size piece) v g = record { old = g .old; other = g .other }
-    change s a b (Finish flag context) v g = gone-finish c s flag (g .old)
+    change s a b (Finish flag reserved context) v g = gone-finish c s flag (g .old)
     change s a b (Query context) v g = g
 
 -- an exchange that finishes the transfer c at m
 pub finish-at : (m : Module) (y : Exchange) (j c flag : ℕ) → kindOf y ≡ Finished j c flag → inner .answer m (y .event) ≡ y .got → FinishOk (m .device .transfer) flag c
 finish-at m y j c flag k p =
     let f : FinishAct (act (y .event)) (y .got) j c flag = finished-act (act (y .event)) (y .got) j c flag (sym (kind-act y) ∙ k) in
-    let q : answers m (Transfers j (f .unserved) (f .misfit) (Finish flag c) (f .n) (f .answer)) ≡ y .got = subst (λ (z : Act). answers m z ≡ y .got) (f .act-is) p in
-    finish-ok (partOf m) (f .unserved) (f .misfit) flag c (good-accepted (partOf m) (f .unserved) (f .misfit) (Finish flag c) (f .n) (f .answer) (y .got) q (f .good))
+    let q : answers m (Transfers j (f .unserved) (f .misfit) (Finish flag (f .reserved) c) (f .n) (f .answer)) ≡ y .got = subst (λ (z : Act). answers m z ≡ y .got) (f .act-is) p in
+    finish-ok (partOf m) (f .unserved) (f .misfit) flag (f .reserved) c (good-accepted (partOf m) (f .unserved) (f .misfit) (Finish flag (f .reserved) c) (f .n) (f .answer) (y .got) q (f .good))
 
 -- the transfer c goes on after the act
 record On (c : ℕ) (m : Module) (f : Act) (got : Answer) : Type 0 where
@@ -76,8 +76,8 @@ go-on c m (Transfers host a b (Send context offset size piece) n answer) got p g
       at = ap (λ (s : TransferPart). s .transfer .phase) e ∙ p;
       ctx = ap (λ (s : TransferPart). current (s .transfer)) e ∙ g;
     })
-go-on c m (Transfers host a b (Finish flag context) n answer) got p g q k =
-    let x : TransferCall = Finish flag context in
+go-on c m (Transfers host a b (Finish flag reserved context) n answer) got p g q k =
+    let x : TransferCall = Finish flag reserved context in
     let v = accepted-call (partOf m) a b x n answer (ap (λ (z : Answer). remains (z .reply .verdict)) q ∙ k) in
     inl (subst (λ (s : TransferPart). Gone c s) (sym (changes (partOf m) a b x v)) (gone-finish c (partOf m) flag (omega (arith, g))))
 go-on c m (Transfers host a b (Query context) n answer) got p g q k =

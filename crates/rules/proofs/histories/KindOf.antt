@@ -62,7 +62,7 @@ started-act (Transfers j a b (Send c offset size piece) n answer) got host conte
     let q = accepted-kind (refused? (got .reply .verdict)) (Sent j c offset piece) (Started host context) (λ o. let z : _≡_ {A = ℕ} 0 1 = cc in omega arith) e in
     let same : Sent j c offset piece ≡ Started host context = q .1 in
     let z : _≡_ {A = ℕ} 0 1 = cc in absurd (omega arith)
-started-act (Transfers j a b (Finish flag c) n answer) got host context e =
+started-act (Transfers j a b (Finish flag reserved c) n answer) got host context e =
     let q = accepted-kind (refused? (got .reply .verdict)) (Finished j c flag) (Started host context) (λ o. let z : _≡_ {A = ℕ} 0 1 = cc in omega arith) e in
     let same : Finished j c flag ≡ Started host context = q .1 in
     let z : _≡_ {A = ℕ} 0 1 = cc in absurd (omega arith)
@@ -75,9 +75,10 @@ started-act (Reads new) got host context e = let z : _≡_ {A = ℕ} 0 1 = cc in
 pub record FinishAct (f : Act) (got : Answer) (host context flag : ℕ) : Type 0 where
   pub unserved : Bool
   pub misfit : Bool
+  pub reserved : List ℕ
   pub n : ℕ
   pub answer : List ℕ
-  pub act-is : f ≡ Transfers host unserved misfit (Finish flag context) n answer
+  pub act-is : f ≡ Transfers host unserved misfit (Finish flag reserved context) n answer
   pub good : Good-answer got
 
 pub finished-act : (f : Act) (got : Answer) (host context flag : ℕ) → actKind f got ≡ Finished host context flag → FinishAct f got host context flag
@@ -90,13 +91,13 @@ finished-act (Transfers j a b (Send c offset size piece) n answer) got host cont
     let q = accepted-kind (refused? (got .reply .verdict)) (Sent j c offset piece) (Finished host context flag) (λ o. let z : _≡_ {A = ℕ} 0 1 = cc in omega arith) e in
     let same : Sent j c offset piece ≡ Finished host context flag = q .1 in
     let z : _≡_ {A = ℕ} 0 1 = cc in absurd (omega arith)
-finished-act (Transfers j a b (Finish f c) n answer) got host context flag e =
+finished-act (Transfers j a b (Finish f reserved c) n answer) got host context flag e =
     let q = accepted-kind (refused? (got .reply .verdict)) (Finished j c f) (Finished host context flag) (λ o. let z : _≡_ {A = ℕ} 0 1 = cc in omega arith) e in
     let same : Finished j c f ≡ Finished host context flag = q .1 in
     let hosts : j ≡ host = cc in
     let contexts : c ≡ context = cc in
     let flags : f ≡ flag = cc in
-    record { unserved = a; misfit = b; n = n; answer = answer; act-is = rw (hosts, contexts, flags); good = q .0 }
+    record { unserved = a; misfit = b; reserved = reserved; n = n; answer = answer; act-is = rw (hosts, contexts, flags); good = q .0 }
 finished-act (Transfers j a b (Query c) n answer) got host context flag e = let z : _≡_ {A = ℕ} 0 1 = cc in absurd (omega arith)
 finished-act (Others a b x n answer) got host context flag e = let z : _≡_ {A = ℕ} 0 1 = cc in absurd (omega arith)
 finished-act Ticks got host context flag e = let z : _≡_ {A = ℕ} 0 1 = cc in absurd (omega arith)

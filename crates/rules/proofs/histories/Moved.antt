@@ -90,7 +90,7 @@ pub free-kind : (f : Act) (got : Answer) → FreeAct f → (actKind f got ≡ Ti
 free-kind (Transfers host a b GetFwInfo n answer) got r = inr refl
 free-kind (Transfers host a b Start n answer) got r = absurd r
 free-kind (Transfers host a b (Send context offset size piece) n answer) got r = absurd r
-free-kind (Transfers host a b (Finish flag context) n answer) got r = absurd r
+free-kind (Transfers host a b (Finish flag reserved context) n answer) got r = absurd r
 free-kind (Transfers host a b (Query context) n answer) got r = absurd r
 free-kind (Others a b x n answer) got r = inr refl
 free-kind Ticks got r = inl refl

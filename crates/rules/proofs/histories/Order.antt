@@ -133,11 +133,11 @@ goes-act x o m (Transfers host a b (Send context offset size piece) n answer) is
       same-given = λ z. refl;
       used = λ past u. u (was-served (partOf m) a b call v .fitting);
     }))
-goes-act x o m (Transfers host a b (Finish flag context) n answer) is-f e sound w p k =
-    let call : TransferCall = Finish flag context in
+goes-act x o m (Transfers host a b (Finish flag reserved context) n answer) is-f e sound w p k =
+    let call : TransferCall = Finish flag reserved context in
     let v = accepted-call (partOf m) a b call n answer (ap (λ (z : Answer). remains (z .reply .verdict)) p ∙ k) in
     let q = chosen (x .got) (Finished host context flag) (accepted-good (partOf m) a b call n answer (x .got) p v) in
-    let ok = finish-ok (partOf m) a b flag context v in
+    let ok = finish-ok (partOf m) a b flag reserved context v in
     subst (λ (z : Kind). Goes (Transfers host a b call n answer) o z (partOf m) (partNext (partOf m) a b call)) (sym q)
     (subst (λ (z : TransferPart). Goes (Transfers host a b call n answer) o (Finished host context flag) (partOf m) z) (sym (changes (partOf m) a b call v))
     (record {

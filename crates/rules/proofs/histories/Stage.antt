@@ -36,7 +36,7 @@ quiet-change : (s : TransferPart) (a b : Bool) (x : TransferCall) → busy (s .t
 quiet-change s a b GetFwInfo w v = refl
 quiet-change s a b Start w v = let k = start-ok s a b v in absurd (busy-start (s .transfer .phase) w (k .not-verifying) (k .not-staged))
 quiet-change s a b (Send context offset size piece) w v = absurd (busy-not (s .transfer .phase) w (send-ok s a b context offset size piece v .at))
-quiet-change s a b (Finish flag context) w v = absurd (busy-not (s .transfer .phase) w (finish-ok s a b flag context v .at))
+quiet-change s a b (Finish flag reserved context) w v = absurd (busy-not (s .transfer .phase) w (finish-ok s a b flag reserved context v .at))
 quiet-change s a b (Query context) w v = refl
 
 pub quiet : (s : TransferPart) (a b : Bool) (x : TransferCall) → busy (s .transfer .phase) ≡ true → partNext s a b x ≡ s
@@ -47,7 +47,7 @@ staged-change : (s : TransferPart) (x : TransferCall) → (s .transfer .phase is
 staged-change s GetFwInfo w = w
 staged-change s Start w = refl
 staged-change s (Send context offset size piece) w = w
-staged-change s (Finish flag context) w = if-both (λ (t : Transfer). (t .phase is Staged) ≡ false) (flag =? 0) refl refl
+staged-change s (Finish flag reserved context) w = if-both (λ (t : Transfer). (t .phase is Staged) ≡ false) (flag =? 0) refl refl
 staged-change s (Query context) w = w
 
 tick-ripe : (s : TransferPart) (version : ℕ) → Tick (s .transfer) (s .area) → (s .transfer .phase is Staged) ≡ false → partTick s .transfer .phase ≡ Staged → partTick s .transfer .staged ≡ version → Ripe s version
@@ -163,7 +163,7 @@ pub no-tick : (host : ℕ) (x : TransferCall) (got : Answer) → tickCount (call
 no-tick host GetFwInfo got = refl
 no-tick host Start got = no-tick-if (refused? (got .reply .verdict)) (Started host _) refl
 no-tick host (Send context offset size piece) got = no-tick-if (refused? (got .reply .verdict)) (Sent host context offset piece) refl
-no-tick host (Finish flag context) got = no-tick-if (refused? (got .reply .verdict)) (Finished host context flag) refl
+no-tick host (Finish flag reserved context) got = no-tick-if (refused? (got .reply .verdict)) (Finished host context flag) refl
 no-tick host (Query context) got = refl
 
 -- Staged stays until a power cycle

@@ -13,7 +13,7 @@ abbrev pub OwnCall : TransferCall → Type 0
 OwnCall GetFwInfo = ⊥
 OwnCall Start = Unit {0}
 OwnCall (Send context offset size piece) = Unit {0}
-OwnCall (Finish flag context) = ⊥
+OwnCall (Finish flag reserved context) = ⊥
 OwnCall (Query context) = ⊥
 
 abbrev pub OwnAct : Act → Type 0
@@ -28,7 +28,7 @@ abbrev pub FreeCall : TransferCall → Type 0
 FreeCall GetFwInfo = Unit {0}
 FreeCall Start = ⊥
 FreeCall (Send context offset size piece) = ⊥
-FreeCall (Finish flag context) = ⊥
+FreeCall (Finish flag reserved context) = ⊥
 FreeCall (Query context) = ⊥
 
 abbrev pub FreeAct : Act → Type 0
@@ -64,7 +64,7 @@ own-ok s a b (Send context offset size piece) o v =
       staged = ap (λ (u : TransferPart). u .transfer .staged) e;
       before = ap (λ (p : Phase). p is Verifying) at;
     }
-own-ok s a b (Finish flag context) o v = absurd o
+own-ok s a b (Finish flag reserved context) o v = absurd o
 own-ok s a b (Query context) o v = absurd o
 
 -- a tick leaves what is not verifying
@@ -103,7 +103,7 @@ swap m host a b x n answer (Transfers j c d GetFwInfo k buffer) e₁ e₂ w f p 
     )
 swap m host a b x n answer (Transfers j c d Start k buffer) e₁ e₂ w f p q = absurd f
 swap m host a b x n answer (Transfers j c d (Send context offset size piece) k buffer) e₁ e₂ w f p q = absurd f
-swap m host a b x n answer (Transfers j c d (Finish flag context) k buffer) e₁ e₂ w f p q = absurd f
+swap m host a b x n answer (Transfers j c d (Finish flag reserved context) k buffer) e₁ e₂ w f p q = absurd f
 swap m host a b x n answer (Transfers j c d (Query context) k buffer) e₁ e₂ w f p q = absurd f
 swap m host a b x n answer (Others c d y k buffer) e₁ e₂ w f p q = (q, p, refl)
 swap m host a b x n answer Ticks e₁ e₂ w f p q =

@@ -105,14 +105,14 @@ pub record FinishOk (t : Transfer) (flag context : ℕ) : Type 0 where
   pub at : t .phase ≡ Receiving
   pub own : context ≡ current t
 
-pub finish-ok : (s : TransferPart) (a b : Bool) (flag context : ℕ) → partVerdict s a b (Finish flag context) ≡ Accepted → FinishOk (s .transfer) flag context
-finish-ok s a b flag context v =
+pub finish-ok : (s : TransferPart) (a b : Bool) (flag : ℕ) (reserved : List ℕ) (context : ℕ) → partVerdict s a b (Finish flag reserved context) ≡ Accepted → FinishOk (s .transfer) flag context
+finish-ok s a b flag reserved context v =
     let t : Transfer = s .transfer in
-    let w : AllFalse (front a b ++ transferChecks t (Finish flag context)) = passed (front a b ++ transferChecks t (Finish flag context)) v in
-    let q = and-true (not (t .phase is Idle)) (context =? current t) (not-false _ (w .1 .1 .1 .0)) in
+    let w : AllFalse (front a b ++ transferChecks t (Finish flag reserved context)) = passed (front a b ++ transferChecks t (Finish flag reserved context)) v in
+    let q = and-true (not (t .phase is Idle)) (context =? current t) (not-false _ (w .1 .1 .1 .1 .0)) in
     record {
-      flag-ok = ltb-false 1 flag (w .1 .1 .0);
-      at = is-phase (t .phase) Receiving (not-false _ (w .1 .1 .1 .1 .0));
+      flag-ok = ltb-false 1 flag (w .1 .1 .1 .0);
+      at = is-phase (t .phase) Receiving (not-false _ (w .1 .1 .1 .1 .1 .0));
       own = eqb-true context (current t) (q .1);
     }
 

@@ -128,13 +128,13 @@ part-change s a b (Send context offset size piece) v w =
       in-phase = subst (λ (z : Phase). PhaseOk z (partChange s (Send context offset size piece) .transfer)) (sym (k .at)) q;
       size = simp (length-append, length-take, length-drop) (omega (arith, w .size, k .inside, k .size-is));
     }
-part-change s a b (Finish flag context) v w = go (flag =? 0)
+part-change s a b (Finish flag reserved context) v w = go (flag =? 0)
   where
     q : PhaseOk Receiving (s .transfer)
-    q = at-phase Receiving (s .transfer) (finish-ok s a b flag context v .at) (w .in-phase)
+    q = at-phase Receiving (s .transfer) (finish-ok s a b flag reserved context v .at) (w .in-phase)
 
     no-fault : FaultOk Receiving (s .transfer)
-    no-fault = fault-at Receiving (s .transfer) (finish-ok s a b flag context v .at) (w .fault)
+    no-fault = fault-at Receiving (s .transfer) (finish-ok s a b flag reserved context v .at) (w .fault)
 
     go : (c : Bool) → PartOk (record { transfer = if c then s .transfer with-phase Verifying with-ticks verification else (s .transfer with-phase Idle with-received 0); area = s .area })
     go true = record { within = w .within; fault = no-fault; in-phase = (q .0, omega arith, omega arith, q .2); size = w .size }
@@ -226,8 +226,9 @@ call-next r (Masks revision) w = accept r (Masks revision) w
 call-next r Healths w = accept r Healths w
 call-next r (Limits GetThreshold) w = accept r (Limits GetThreshold) w
 call-next r (Limits (SetThreshold enable spare media controller)) w =
+    peel (7 <? enable) (Status 3 0) ((100 <? spare gives Status 3 0) ∷ []) r (Limits (SetThreshold enable spare media controller)) refl w (λ z.
     peel (100 <? spare) (Status 3 0) [] r (Limits (SetThreshold enable spare media controller)) refl w
-    (λ a. accept r (Limits (SetThreshold enable spare media controller)) (record { locks = w .locks; phrase = w .phrase; tries = w .tries; bits = omega arith; spare = ltb-false 100 spare a; left = w .left }))
+    (λ a. accept r (Limits (SetThreshold enable spare media controller)) (record { locks = w .locks; phrase = w .phrase; tries = w .tries; bits = omega arith; spare = ltb-false 100 spare a; left = w .left })))
 call-next r (Locks x) w = lock-next r x w
 call-next r Nothing w = accept r Nothing w
 
@@ -307,7 +308,7 @@ fit = record { change = change; ticked = λ s w. by-tick Fit s w (λ p l. w) (λ
     change s a b GetFwInfo v w = w
     change s a b Start v w = let n = start-ok s a b v .left in omega (arith, w)
     change s a b (Send context offset size piece) v w = w
-    change s a b (Finish flag context) v w = if-both (λ (t : Transfer). given t ≤ lastContext) (flag =? 0) w w
+    change s a b (Finish flag reserved context) v w = if-both (λ (t : Transfer). given t ≤ lastContext) (flag =? 0) w w
     change s a b (Query context) v w = w
 
 -- a tick gives out no context

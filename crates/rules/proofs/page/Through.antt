@@ -26,7 +26,7 @@ pub transfer-mild : (t : Transfer) (a b : Bool) (x : TransferCall) → mild (ver
 transfer-mild t a b GetFwInfo = by-rows mild (front a b) refl
 transfer-mild t a b Start = by-rows mild (front a b ++ transferChecks t Start) refl
 transfer-mild t a b (Send context offset size piece) = by-rows mild (front a b ++ transferChecks t (Send context offset size piece)) refl
-transfer-mild t a b (Finish flag context) = by-rows mild (front a b ++ transferChecks t (Finish flag context)) refl
+transfer-mild t a b (Finish flag reserved context) = by-rows mild (front a b ++ transferChecks t (Finish flag reserved context)) refl
 transfer-mild t a b (Query context) = by-rows mild (front a b ++ transferChecks t (Query context)) refl
 
 -- no R number
@@ -44,7 +44,7 @@ no-R m a b (OnThresholds (SetThreshold enable spare media controller)) = by-rows
 no-R m a b (OnTransfer GetFwInfo) = by-rows noR (front a b) refl
 no-R m a b (OnTransfer Start) = by-rows noR (front a b ++ checks m (OnTransfer Start)) refl
 no-R m a b (OnTransfer (Send context offset size piece)) = by-rows noR (front a b ++ checks m (OnTransfer (Send context offset size piece))) refl
-no-R m a b (OnTransfer (Finish flag context)) = by-rows noR (front a b ++ checks m (OnTransfer (Finish flag context))) refl
+no-R m a b (OnTransfer (Finish flag reserved context)) = by-rows noR (front a b ++ checks m (OnTransfer (Finish flag reserved context))) refl
 no-R m a b (OnTransfer (Query context)) = by-rows noR (front a b ++ checks m (OnTransfer (Query context))) refl
 no-R m a b (OnSecurity GetSecurityState) = by-rows noR (front a b) refl
 no-R m a b (OnSecurity (SetPassphrase given new)) = by-rows noR (front a b ++ checks m (OnSecurity (SetPassphrase given new))) refl

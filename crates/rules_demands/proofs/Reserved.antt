@@ -1,0 +1,78 @@
+-- T-05 written out follows from its theorem: where a call gives no R number, is served and has its length, the function's own checks decide.
+-- Assumes nothing.
+use Prim.Native.Nat.{ℕ, _+_, _*_, _≤_, _<_}
+use mathlib.Core.{Path.{_≡_, refl, sym, _∙_, ap}, Bool.{Bool, true, false}, List.{List, [], _∷_}}
+use lib.ListN.{length}
+use native.Mathlib.Omega.{arith}
+use borrow.Author.Tests.{le-ltb, eq-eqb, eqb-true}
+use Rattle.rules.specs.{Tests._=?_, Bytes.{zeros?, ofLe}, Record.{possible, Module}, Refusals.verdict, Table.{rowOf, fits?}}
+use Rattle.rules.specs.{Module.{Call, Result, callIn, checks, callResult, outcome, gateChecks}, Thresholds.{setThresholdOf, thresholdChecks}, Reserved.RequestT05}
+use Rattle.rules.specs.declared.{Refusal.the-variants.{R, Status}, Verdict.Verdict, Verdict.the-variants.{Accepted, Refused}}
+use Rattle.rules.proofs.page.Passed.{andThen, verdict-join}
+use Rattle.rules_demands.specs.Reserved.{ReservedWrittenOut, ReservedMeansZero, ReservedHeld}
+
+not-zeros : (first second third : ℕ) → 0 < first + second + third → zeros? (first ∷ second ∷ third ∷ []) ≡ false
+unfolding zeros?
+not-zeros first second third l = go (first =? 0) refl (second =? 0) refl (third =? 0) refl
+  where
+    go : (x : Bool) → (first =? 0) ≡ x → (y : Bool) → (second =? 0) ≡ y → (z : Bool) → (third =? 0) ≡ z → zeros? (first ∷ second ∷ third ∷ []) ≡ false
+    go false e y f z g = rw e
+    go true e false f z g = rw (e, f)
+    go true e true f false g = rw (e, f, g)
+    go true e true f true g = absurd (omega (arith, eqb-true first 0 e, eqb-true second 0 f, eqb-true third 0 g))
+
+module _ (m : Module) (buffer : List ℕ) (p : possible (m .device) ≡ true) (l : length (m .area) ≡ 16384) (room : 132 ≤ length buffer) where
+  open-to-finish : (flag first second third a b c d : ℕ) → verdict (gateChecks m 2 15 (flag ∷ first ∷ second ∷ third ∷ a ∷ b ∷ c ∷ d ∷ []) buffer) ≡ Accepted
+  unfolding verdict rowOf fits?
+  open-to-finish flag first second third a b c d = simp (le-ltb (length buffer) 132 room, eq-eqb (length (m .area)) 16384 l, p)
+
+  open-to-set : (low high spare a b c d : ℕ) → verdict (gateChecks m 2 17 (low ∷ high ∷ spare ∷ a ∷ b ∷ c ∷ d ∷ []) buffer) ≡ Accepted
+  unfolding verdict rowOf fits?
+  open-to-set low high spare a b c d = simp (le-ltb (length buffer) 132 room, eq-eqb (length (m .area)) 16384 l, p)
+
+  own : (index : ℕ) (request : List ℕ) (v : Verdict) → verdict (gateChecks m 2 index request buffer) ≡ Accepted → verdict (checks m (callIn 2 index request)) ≡ v
+      → callResult m 2 index request buffer ≡ outcome v m (callIn 2 index request) (rowOf index .answer) buffer
+  unfolding callResult
+  own index request v gate-open e =
+      let gate = gateChecks m 2 index request buffer in
+      let asked = callIn 2 index request in
+      ap (λ (w : Verdict). outcome w m asked (rowOf index .answer) buffer)
+      (verdict-join gate (checks m asked) ∙ ap (λ (w : Verdict). andThen w (verdict (checks m asked))) gate-open ∙ e)
+
+-- the number of one byte, and of two
+one : (n : ℕ) → n + 0 ≡ n
+one n = omega arith
+
+two : (n k : ℕ) → ofLe (n ∷ k ∷ []) ≡ n + 256 * k
+two n k = omega arith
+
+-- a call's reply has its verdict
+told : (v : Verdict) (m : Module) (asked : Call) (n : ℕ) (buffer : List ℕ) → outcome v m asked n buffer .reply .verdict ≡ v
+told Accepted m asked n buffer = refl
+told (Refused (R number)) m asked n buffer = refl
+told (Refused (Status status ext)) m asked n buffer = refl
+
+pub written-out : RequestT05 → ReservedMeansZero
+unfolding rowOf
+written-out demand m host buffer p l room =
+    record {
+      finish = λ flag first second third a b c d n.
+          own m buffer p l room 15 (flag ∷ first ∷ second ∷ third ∷ a ∷ b ∷ c ∷ d ∷ []) (Refused (Status 3 0)) (open-to-finish m buffer p l room flag first second third a b c d)
+          (demand .finish-reserved (m .device .transfer) (flag + 0) (first ∷ second ∷ third ∷ []) (ofLe (a ∷ b ∷ c ∷ d ∷ [])) (not-zeros first second third n));
+      set = λ low high spare a b c d n.
+          own m buffer p l room 17 (low ∷ high ∷ spare ∷ a ∷ b ∷ c ∷ d ∷ []) (Refused (Status 3 0)) (open-to-set m buffer p l room low high spare a b c d)
+          (demand .set-reserved (ofLe (low ∷ high ∷ [])) (spare + 0) (ofLe (a ∷ b ∷ [])) (ofLe (c ∷ d ∷ [])) (omega arith));
+      stored = λ low high spare a b c d v.
+          let request : List ℕ = low ∷ high ∷ spare ∷ a ∷ b ∷ c ∷ d ∷ [] in
+          let is-open = open-to-set m buffer p l room low high spare a b c d in
+          let accepted : verdict (thresholdChecks (setThresholdOf request)) ≡ Accepted =
+              sym (told (verdict (thresholdChecks (setThresholdOf request))) m (callIn 2 17 request) 4 buffer)
+              ∙ ap (λ (r : Result). r .reply .verdict) (sym (own m buffer p l room 17 request (verdict (thresholdChecks (setThresholdOf request))) is-open refl)) ∙ v in
+          ap (λ (r : Result). r .after .device .thresholds) (own m buffer p l room 17 request Accepted is-open accepted)
+          ∙ demand .nothing-cleared (m .device .thresholds) (ofLe (low ∷ high ∷ [])) (spare + 0) (ofLe (a ∷ b ∷ [])) (ofLe (c ∷ d ∷ [])) accepted
+          ∙ (λ i. record { enable = two low high i; spare = one spare i; media = two a b i; controller = two c d i });
+    }
+
+pub reserved-held : ReservedHeld
+unfolding verdict zeros?
+reserved-held = record { finish-bits = refl; finish-flags = refl; set-bits = refl; set-spares = refl }

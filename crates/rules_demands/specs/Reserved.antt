@@ -1,0 +1,52 @@
+-- Document 02, T-05, written out, byte by byte of a call; and by examples: every reserved bit by itself.
+-- Assumes nothing.
+use Prim.Native.Nat.{ℕ, _+_, _*_, _^_, _≤_, _<_}
+use mathlib.Core.{Path._≡_, Bool.true, List.{List, [], _∷_, _++_, map}}
+use lib.ListN.{length, drop, replicate}
+use Rattle.rules.specs.Bytes.{le}
+use Rattle.rules.specs.Record.{fresh, possible, Module}
+use Rattle.rules.specs.Refusals.{verdict}
+use Rattle.rules.specs.Thresholds.{setThresholdOf, thresholdChecks}
+use Rattle.rules.specs.Transfer.{finishOf, transferChecks, startChange}
+use Rattle.rules.specs.Module.{Result, reply, call, step}
+use Rattle.rules.specs.declared.{Refusal.the-variants.Status, Verdict.the-variants.{Accepted, Refused}, Verdict.Verdict}
+
+-- status 3, its four bytes at the front of the buffer, and nothing changed
+abbrev pub refused3 : Module → (buffer : List ℕ) → Result
+refused3 m buffer = record { reply = reply (Refused (Status 3 0)) 4; after = m; answer = 3 ∷ 0 ∷ 0 ∷ 0 ∷ drop 4 buffer }
+
+-- of every module that gives no R number, and every host
+pub record ReservedWrittenOut (m : Module) (host : ℕ) (buffer : List ℕ) : Type 0 where
+  -- a Finish: bytes 1 to 3, whatever the flag and the context are
+  pub finish : (flag first second third a b c d : ℕ) → 0 < first + second + third
+      → step m (call host 2 15 (flag ∷ first ∷ second ∷ third ∷ a ∷ b ∷ c ∷ d ∷ []) buffer) ≡ refused3 m buffer
+  -- a Set Threshold: bits 3 to 15 of bytes 0 and 1, whatever the spare and the words are
+  pub set : (low high spare a b c d : ℕ) → 7 < low + 256 * high
+      → step m (call host 2 17 (low ∷ high ∷ spare ∷ a ∷ b ∷ c ∷ d ∷ []) buffer) ≡ refused3 m buffer
+  -- one that is accepted stores its enable bits as they came, and its spare
+  pub stored : (low high spare a b c d : ℕ) → step m (call host 2 17 (low ∷ high ∷ spare ∷ a ∷ b ∷ c ∷ d ∷ []) buffer) .reply .verdict ≡ Accepted
+      → step m (call host 2 17 (low ∷ high ∷ spare ∷ a ∷ b ∷ c ∷ d ∷ []) buffer) .after .device .thresholds
+      ≡ record { enable = low + 256 * high; spare = spare; media = a + 256 * b; controller = c + 256 * d }
+
+abbrev pub ReservedMeansZero : Type 0
+ReservedMeansZero = (m : Module) (host : ℕ) (buffer : List ℕ) → possible (m .device) ≡ true → length (m .area) ≡ 16384 → 132 ≤ length buffer → ReservedWrittenOut m host buffer
+
+-- each bit of three bytes, and of two
+abbrev pub bits : List ℕ
+bits = 0 ∷ 1 ∷ 2 ∷ 3 ∷ 4 ∷ 5 ∷ 6 ∷ 7 ∷ 8 ∷ 9 ∷ 10 ∷ 11 ∷ 12 ∷ 13 ∷ 14 ∷ 15 ∷ []
+
+abbrev pub moreBits : List ℕ
+moreBits = 16 ∷ 17 ∷ 18 ∷ 19 ∷ 20 ∷ 21 ∷ 22 ∷ 23 ∷ []
+
+-- a Finish of context 1 with these reserved bytes, after the first Start
+abbrev pub judgedFinish : (flag reserved : ℕ) → Verdict
+judgedFinish flag reserved = verdict (transferChecks (startChange (fresh .transfer)) (finishOf (flag ∷ le 3 reserved ++ (1 ∷ 0 ∷ 0 ∷ 0 ∷ []))))
+
+abbrev pub judgedSet : (enable spare : ℕ) → Verdict
+judgedSet enable spare = verdict (thresholdChecks (setThresholdOf (le 2 enable ++ (spare ∷ 0 ∷ 0 ∷ 0 ∷ 0 ∷ []))))
+
+pub record ReservedHeld : Type 0 where
+  pub finish-bits : map (λ k. judgedFinish 0 (2 ^ k)) (bits ++ moreBits) ≡ replicate 24 (Refused (Status 3 0))
+  pub finish-flags : map (λ flag. judgedFinish flag 0) (0 ∷ 1 ∷ 2 ∷ []) ≡ Accepted ∷ Accepted ∷ Refused (Status 3 0) ∷ []
+  pub set-bits : map (λ k. judgedSet (2 ^ k) 100) bits ≡ Accepted ∷ Accepted ∷ Accepted ∷ replicate 13 (Refused (Status 3 0))
+  pub set-spares : map (judgedSet 7) (100 ∷ 101 ∷ []) ≡ Accepted ∷ Refused (Status 3 0) ∷ []
