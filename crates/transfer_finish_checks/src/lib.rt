@@ -15,12 +15,11 @@ pub fn judge_finish(t: Transfer, request: &[u8]) -> Verdict
     let n = device_phase::phase_number(p);
     let flag = bytes_numbers::byte(request, 0);
     let first = bytes_numbers::byte(request, 1);
-    let second = bytes_numbers::byte(request, 2);
-    let third = bytes_numbers::byte(request, 3);
+    let others = bytes_numbers::half(request, 2);
     let context = bytes_numbers::word(request, 4);
-    let reserved = !((first == 0) & (second == 0) & (third == 0));
-    let over = 1 < flag;
     let dead = !device_phase::live(t, context);
+    let reserved = !((first == 0) & (others == 0));
+    let over = 1 < flag;
     let out_of_turn = !(n == 1);
     if reserved {
         return Verdict::Refused(Refusal::Status { status: 3, ext: 0 });
