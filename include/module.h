@@ -102,7 +102,8 @@ extern "C" {
  *   MODULE_FINISH              request: flag [0] (0 verify, 1 abort), reserved [1-3], context [4-7]
  *   MODULE_QUERY               request: context [0-3]
  *                              answer:  staged version [4-11]
- *   MODULE_SET_THRESHOLD       request: enable bits [0-1], spare [2], media temperature [3-4], controller temperature [5-6]
+ *   MODULE_SET_THRESHOLD       request: enable bits [0-1] (3 to 15 reserved), spare [2], media temperature [3-4],
+ *                                       controller temperature [5-6]
  *   MODULE_GET_SECURITY_STATE  request: none
  *                              answer:  zeros [4-7], state [8] (bit 1 enabled, 2 locked, 3 frozen, 4 attempts at 10), zeros [9-11]
  *   MODULE_SET_PASSPHRASE      request: current passphrase [0-31], new passphrase [32-63]
@@ -110,7 +111,8 @@ extern "C" {
  *                              request: current passphrase [0-31]
  *   MODULE_FREEZE              request: none
  *
- * A request has exactly these bytes, but for MODULE_MASK's. Where no answer is named it is the status and the extended number. */
+ * A request has exactly these bytes, but for MODULE_MASK's. Reserved bytes and bits are zeros: any other gives
+ * MODULE_WRONG_FIELD, whatever else the request carries. Where no answer is named it is the status and the extended number. */
 
 /* A temperature word, in a reading and in a threshold alike: bits 0 to 14 are its size in sixteenths of a degree Celsius, bit 15 is
  * set below zero. 0190h is 25 degrees, 8190h is 25 below zero; 8000h equals 0000h. Any word is one.

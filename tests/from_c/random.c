@@ -325,6 +325,14 @@ static void passphrase(uint8_t *at)
         at[below(MODULE_PASSPHRASE_SIZE)] ^= (uint8_t)(1 << below(8));
 }
 
+/* Reserved bits of a request, so many of them from a bit on: most often none, else one of them or any. */
+static uint32_t reserved_bits(unsigned first, unsigned many)
+{
+    if (percent(70))
+        return 0;
+    return percent(50) ? (uint32_t)1 << (first + below(many)) : (uint32_t)below((uint64_t)1 << many) << first;
+}
+
 static void choose_request(uint64_t function)
 {
     if (percent(6)) {
@@ -335,6 +343,7 @@ static void choose_request(uint64_t function)
     case MODULE_SEND: send_request(); break;
     case MODULE_FINISH:
         renew(&request, 8);
+        put(mine(&request), 4, reserved_bits(8, 24));
         mine(&request)[0] = percent(75) ? 0 : percent(60) ? 1 : (uint8_t)next();
         put(mine(&request) + 4, 4, context());
         break;
@@ -344,6 +353,7 @@ static void choose_request(uint64_t function)
         break;
     case MODULE_SET_THRESHOLD:
         renew(&request, 7);
+        put(mine(&request), 2, below(8) | reserved_bits(3, 13));
         mine(&request)[2] = (uint8_t)(percent(80) ? spare_near(byte_kept(40)) : 100 + below(156));
         put(mine(&request) + 3, 2, word_near(word_kept(42)));
         put(mine(&request) + 5, 2, word_near(word_kept(44)));
@@ -576,6 +586,25 @@ static void count_adoption(unsigned kind)
         && !all_zero(was + 40, 6);
 }
 
+/* How often a reserved bit, and nothing else of the request, was refused: bits 8 to 31 of a Finish, 3 to 15 of a Set Threshold. */
+static uint64_t finish_bits[32], enable_bits[16];
+
+static void count_bit(uint64_t *bits, uint32_t reserved)
+{
+    if (reserved != 0 && (reserved & (reserved - 1)) == 0)
+        bits[__builtin_ctz(reserved)]++;
+}
+
+static void count_reserved(const struct turn *turn)
+{
+    const uint8_t *at = mine(&request);
+
+    if (turn->function == MODULE_FINISH && request.length == 8 && at[0] <= 1)
+        count_bit(finish_bits, get32(at) & 0xffffff00u);
+    if (turn->function == MODULE_SET_THRESHOLD && request.length == 7 && at[2] <= 100)
+        count_bit(enable_bits, get16(at) & 0xfff8u);
+}
+
 static void count(const struct turn *turn)
 {
     const uint8_t *after = lent(&record, 0);
@@ -591,6 +620,8 @@ static void count(const struct turn *turn)
         count_adoption(kind);
     else if (kind == 3)
         refused_fields[bad_field]++;
+    if (turn->event == CALL && kind == STATUS + MODULE_WRONG_FIELD)
+        count_reserved(turn);
 }
 
 static const char *const reasons[] = {"none", "size", "number", "count", "version", "sum"};
@@ -691,6 +722,10 @@ static bool reached_all(void)
         all &= reached(failures[reason], "failed by", reasons[reason]);
     for (int wrong = NO_REASON; wrong < BAD_FIELDS; wrong++)
         all &= reached(refused_fields[wrong], "R3 for", bad_fields[wrong]);
+    for (int bit = 8; bit < 32; bit++)
+        all &= reached(finish_bits[bit], "refused by itself", "a reserved bit of a Finish");
+    for (int bit = 3; bit < 16; bit++)
+        all &= reached(enable_bits[bit], "refused by itself", "a reserved enable bit");
     all &= reached(taken_over, names[ADOPT], "a record taken over");
     all &= reached(left_alone, names[ADOPT], "a record left as it was");
     all &= reached(with_reading, names[ADOPT], "R3 for a reading in Failed without a reason");
