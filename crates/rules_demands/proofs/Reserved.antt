@@ -66,8 +66,8 @@ written-out demand m host buffer p l room =
           let request : List ℕ = low ∷ high ∷ spare ∷ a ∷ b ∷ c ∷ d ∷ [] in
           let is-open = open-to-set m buffer p l room low high spare a b c d in
           let accepted : verdict (thresholdChecks (setThresholdOf request)) ≡ Accepted =
-              sym (told (verdict (thresholdChecks (setThresholdOf request))) m (callIn 2 17 request) 4 buffer)
-              ∙ ap (λ (r : Result). r .reply .verdict) (sym (own m buffer p l room 17 request (verdict (thresholdChecks (setThresholdOf request))) is-open refl)) ∙ v in
+          sym (told (verdict (thresholdChecks (setThresholdOf request))) m (callIn 2 17 request) 4 buffer)
+          ∙ ap (λ (r : Result). r .reply .verdict) (sym (own m buffer p l room 17 request (verdict (thresholdChecks (setThresholdOf request))) is-open refl)) ∙ v in
           ap (λ (r : Result). r .after .device .thresholds) (own m buffer p l room 17 request Accepted is-open accepted)
           ∙ demand .nothing-cleared (m .device .thresholds) (ofLe (low ∷ high ∷ [])) (spare + 0) (ofLe (a ∷ b ∷ [])) (ofLe (c ∷ d ∷ [])) accepted
           ∙ (λ i. record { enable = two low high i; spare = one spare i; media = two a b i; controller = two c d i });
