@@ -64,7 +64,7 @@ wrongCases =
     ∷ []
 
 -- Modules that are nearly the end of some row, each wrong in one thing: a version, a phase, the bytes received, a byte of the area.
-abbrev pub near : Phase → (received staged : ℕ) (area : List ℕ) → Module
+abbrev near : Phase → (received staged : ℕ) (area : List ℕ) → Module
 near phase received staged area =
     moduleOf (fresh with-transfer (fresh .transfer with-phase phase with-received received with-staged staged)) area
 
@@ -82,7 +82,7 @@ nearMisses =
 -- the numbers of the rows whose end a module is not
 abbrev pub notTheEndOf : (number : ℕ) → List Case → Module → List ℕ
 notTheEndOf number [] m = []
-notTheEndOf number (c ∷ rows) m = if c .ends m then notTheEndOf (number + 1) rows m else number ∷ notTheEndOf (number + 1) rows m
+notTheEndOf number (c ∷ rows) m = (if c .ends m then [] else number ∷ []) ++ notTheEndOf (number + 1) rows m
 
 -- the rows that look at the end
 abbrev pub looking : List ℕ
