@@ -212,7 +212,7 @@ cases =
     ∷ powering
     ∷ ask 1 [] gets health (0 ∷ 0 ∷ 0 ∷ 0 ∷ 0x1A ∷ 0x02 ∷ 0 ∷ 0 ∷ 0 ∷ 0 ∷ 0 ∷ 0 ∷ 0 ∷ 0 ∷ 0 ∷ 0x02 ∷ 0x01 ∷ 0x00 ∷ 0x01 ∷ 0x80 ∷ [])
     ∷ [])
-    -- document 02, T-05: a Finish with a nonzero reserved byte while Idle: 3, not 7/1; and while Receiving, which it leaves, each of the three
+    -- document 02, T-05: a Finish with a nonzero reserved byte while Idle: 3, not 7/1; and each of the three while Receiving, where it stays
     ∷ case (finish-with (0x00 ∷ 0x00 ∷ 0x80 ∷ []) gets status 3 ∷ [])
     ∷ case
     (start gets started

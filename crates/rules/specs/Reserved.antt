@@ -4,7 +4,7 @@
 use Prim.Native.Nat.{ℕ, _≤_, _<_}
 use mathlib.Core.{Path._≡_, Bool.{true, false, not}, List.{List, [], _∷_}}
 use Rattle.rules.specs.Tests.{_<?_}
-use Rattle.rules.specs.Bytes.{zeros?}
+use Rattle.rules.specs.Bytes.{zeros?, on}
 use Rattle.rules.specs.Record.{_is_, live}
 use Rattle.rules.specs.Refusals.{_gives_, verdict}
 use Rattle.rules.specs.Thresholds.{SetThreshold, thresholdChecks, thresholdChange}
@@ -20,7 +20,8 @@ pub record RequestT05 : Type 0 where
   pub finish-zeros : (t : Transfer) (flag : ℕ) (reserved : List ℕ) (context : ℕ) → zeros? reserved ≡ true
       → verdict (finishChecks t flag reserved context)
       ≡ verdict ((1 <? flag gives Status 3 0) ∷ (not (live t context) gives Status 7 1) ∷ (not (t .phase is Receiving) gives Status 7 2) ∷ [])
-  -- "or Set Threshold with any of enable bits 3 to 15, is refused. Refusals: status 3";
+  -- "or Set Threshold with any of enable bits 3 to 15, is refused. Refusals: status 3"; bits 0 to 2 make 7 at most, and any bit from 3 on makes more
+  pub any-bit : (k enable : ℕ) → 3 ≤ k → on k enable ≡ true → 7 < enable
   pub set-reserved : (enable spare media controller : ℕ) → 7 < enable
       → verdict (thresholdChecks (SetThreshold enable spare media controller)) ≡ Refused (Status 3 0)
   -- with none of them it is judged as document 01 says: by its spare

@@ -21,7 +21,7 @@ setThresholdOf request =
     SetThreshold (numberAt 2 0 request) (numberAt 1 2 request) (numberAt 2 3 request) (numberAt 2 5 request)
 
 -- Document 02, T-05: "Set Threshold with any of enable bits 3 to 15, is refused. Refusals: status 3, in the place of each function's first field check."
--- It replaces document 01's "Reserved bits and bytes of a request are read past" (docs/DECISIONS.md, B21, B22).
+-- It replaces document 01's "Reserved bits and bytes of a request are read past", but for function 0's request (docs/DECISIONS.md, B21, B22).
 -- Then "Set gives 3 if spare is over 100;"
 abbrev pub thresholdChecks : ThresholdCall → List Check
 thresholdChecks GetThreshold = []

@@ -80,7 +80,7 @@ abbrev pub finishOf : (request : List ℕ) → TransferCall
 finishOf request = Finish (numberAt 1 0 request) (take 3 (drop 1 request)) (numberAt 4 4 request)
 
 -- Document 02, T-05: "A Finish with a nonzero reserved byte .. is refused. Refusals: status 3, in the place of each function's first field check."
--- It replaces document 01's "Reserved bits and bytes of a request are read past" (docs/DECISIONS.md, B21, B22).
+-- It replaces document 01's "Reserved bits and bytes of a request are read past", but for function 0's request (docs/DECISIONS.md, B21, B22).
 -- Then "Flag over 1: 3. Context not live: 7/1. Phase not Receiving: 7/2."
 abbrev pub finishChecks : Transfer → (flag : ℕ) (reserved : List ℕ) (context : ℕ) → List Check
 finishChecks t flag reserved context =

@@ -1,13 +1,13 @@
 -- T-05 written out follows from its theorem: where a call gives no R number, is served and has its length, the function's own checks decide.
 -- Assumes nothing.
 use Prim.Native.Nat.{ℕ, _+_, _*_, _≤_, _<_}
-use mathlib.Core.{Path.{_≡_, refl, sym, _∙_, ap}, Bool.{Bool, true, false}, List.{List, [], _∷_}}
+use mathlib.Core.{Path.{_≡_, refl, sym, _∙_, ap}, Bool.{Bool, true, false, not}, List.{List, [], _∷_}}
 use lib.ListN.{length}
 use native.Mathlib.Omega.{arith}
 use borrow.Author.Tests.{le-ltb, eq-eqb, eqb-true}
-use Rattle.rules.specs.{Tests._=?_, Bytes.{zeros?, ofLe}, Record.{possible, Module}, Refusals.verdict, Table.{rowOf, fits?}}
+use Rattle.rules.specs.{Tests.{_=?_, _<?_}, Bytes.{zeros?, ofLe}, Record.{possible, _is_, live, Module}, Refusals.{_gives_, verdict}, Table.{rowOf, fits?}}
 use Rattle.rules.specs.{Module.{Call, Result, callIn, checks, callResult, outcome, gateChecks}, Thresholds.{setThresholdOf, thresholdChecks}, Reserved.RequestT05}
-use Rattle.rules.specs.declared.{Refusal.the-variants.{R, Status}, Verdict.Verdict, Verdict.the-variants.{Accepted, Refused}}
+use Rattle.rules.specs.declared.{Refusal.the-variants.{R, Status}, Verdict.Verdict, Verdict.the-variants.{Accepted, Refused}, Phase.the-variants.Receiving}
 use Rattle.rules.proofs.page.Passed.{andThen, verdict-join}
 use Rattle.rules_demands.specs.Reserved.{ReservedWrittenOut, ReservedMeansZero, ReservedHeld}
 
@@ -52,10 +52,29 @@ told Accepted m asked n buffer = refl
 told (Refused (R number)) m asked n buffer = refl
 told (Refused (Status status ext)) m asked n buffer = refl
 
-pub written-out : RequestT05 → ReservedMeansZero
-unfolding rowOf
-written-out demand m host buffer p l room =
+-- a call's verdict is that of the function's own checks
+judged : (m : Module) (buffer : List ℕ) (p : possible (m .device) ≡ true) (l : length (m .area) ≡ 16384) (room : 132 ≤ length buffer) (index : ℕ) (request : List ℕ)
+    → verdict (gateChecks m 2 index request buffer) ≡ Accepted → callResult m 2 index request buffer .reply .verdict ≡ verdict (checks m (callIn 2 index request))
+judged m buffer p l room index request gate-open =
+    let v = verdict (checks m (callIn 2 index request)) in
+    ap (λ (r : Result). r .reply .verdict) (own m buffer p l room index request v gate-open refl) ∙ told v m (callIn 2 index request) (rowOf index .answer) buffer
+
+of-calls : RequestT05 → (m : Module) (host : ℕ) (buffer : List ℕ) → possible (m .device) ≡ true → length (m .area) ≡ 16384 → 132 ≤ length buffer → ReservedWrittenOut m host buffer
+unfolding rowOf zeros?
+of-calls demand m host buffer p l room =
     record {
+      finish-zeros = λ flag a b c d.
+          judged m buffer p l room 15 (flag ∷ 0 ∷ 0 ∷ 0 ∷ a ∷ b ∷ c ∷ d ∷ []) (open-to-finish m buffer p l room flag 0 0 0 a b c d)
+          ∙ demand .finish-zeros (m .device .transfer) (flag + 0) (0 ∷ 0 ∷ 0 ∷ []) (ofLe (a ∷ b ∷ c ∷ d ∷ [])) refl
+          ∙ (λ i. verdict
+          ((1 <? one flag i gives Status 3 0)
+          ∷ (not (live (m .device .transfer) (ofLe (a ∷ b ∷ c ∷ d ∷ []))) gives Status 7 1)
+          ∷ (not (m .device .transfer .phase is Receiving) gives Status 7 2)
+          ∷ []));
+      set-zeros = λ low spare a b c d few.
+          judged m buffer p l room 17 (low ∷ 0 ∷ spare ∷ a ∷ b ∷ c ∷ d ∷ []) (open-to-set m buffer p l room low 0 spare a b c d)
+          ∙ demand .set-zeros (ofLe (low ∷ 0 ∷ [])) (spare + 0) (ofLe (a ∷ b ∷ [])) (ofLe (c ∷ d ∷ [])) (omega arith)
+          ∙ (λ i. verdict ((100 <? one spare i gives Status 3 0) ∷ []));
       finish = λ flag first second third a b c d n.
           own m buffer p l room 15 (flag ∷ first ∷ second ∷ third ∷ a ∷ b ∷ c ∷ d ∷ []) (Refused (Status 3 0)) (open-to-finish m buffer p l room flag first second third a b c d)
           (demand .finish-reserved (m .device .transfer) (flag + 0) (first ∷ second ∷ third ∷ []) (ofLe (a ∷ b ∷ c ∷ d ∷ [])) (not-zeros first second third n));
@@ -72,6 +91,9 @@ written-out demand m host buffer p l room =
           ∙ demand .nothing-cleared (m .device .thresholds) (ofLe (low ∷ high ∷ [])) (spare + 0) (ofLe (a ∷ b ∷ [])) (ofLe (c ∷ d ∷ [])) accepted
           ∙ (λ i. record { enable = two low high i; spare = one spare i; media = two a b i; controller = two c d i });
     }
+
+pub written-out : RequestT05 → ReservedMeansZero
+written-out demand = record { any-bit = λ k low high. demand .any-bit k (low + 256 * high); of-calls = of-calls demand }
 
 pub reserved-held : ReservedHeld
 unfolding verdict zeros?

@@ -1,15 +1,16 @@
 -- Document 02, T-05, written out, byte by byte of a call; and by examples: every reserved bit by itself.
 -- Assumes nothing.
 use Prim.Native.Nat.{ℕ, _+_, _*_, _^_, _≤_, _<_}
-use mathlib.Core.{Path._≡_, Bool.true, List.{List, [], _∷_, _++_, map}}
+use mathlib.Core.{Path._≡_, Bool.{true, not}, List.{List, [], _∷_, _++_, map}}
 use lib.ListN.{length, drop, replicate}
-use Rattle.rules.specs.Bytes.{le}
-use Rattle.rules.specs.Record.{fresh, possible, Module}
-use Rattle.rules.specs.Refusals.{verdict}
+use Rattle.rules.specs.Tests.{_<?_}
+use Rattle.rules.specs.Bytes.{le, ofLe, on}
+use Rattle.rules.specs.Record.{fresh, possible, _is_, live, Module}
+use Rattle.rules.specs.Refusals.{_gives_, verdict}
 use Rattle.rules.specs.Thresholds.{setThresholdOf, thresholdChecks}
 use Rattle.rules.specs.Transfer.{finishOf, transferChecks, startChange}
 use Rattle.rules.specs.Module.{Result, reply, call, step}
-use Rattle.rules.specs.declared.{Refusal.the-variants.Status, Verdict.the-variants.{Accepted, Refused}, Verdict.Verdict}
+use Rattle.rules.specs.declared.{Refusal.the-variants.Status, Verdict.the-variants.{Accepted, Refused}, Verdict.Verdict, Phase.the-variants.Receiving}
 
 -- status 3, its four bytes at the front of the buffer, and nothing changed
 abbrev pub refused3 : Module → (buffer : List ℕ) → Result
@@ -23,13 +24,24 @@ pub record ReservedWrittenOut (m : Module) (host : ℕ) (buffer : List ℕ) : Ty
   -- a Set Threshold: bits 3 to 15 of bytes 0 and 1, whatever the spare and the words are
   pub set : (low high spare a b c d : ℕ) → 7 < low + 256 * high
       → step m (call host 2 17 (low ∷ high ∷ spare ∷ a ∷ b ∷ c ∷ d ∷ []) buffer) ≡ refused3 m buffer
-  -- one that is accepted stores its enable bits as they came, and its spare
+  -- with zeros there both are judged as before: flag, context and phase; the spare
+  pub finish-zeros : (flag a b c d : ℕ) → step m (call host 2 15 (flag ∷ 0 ∷ 0 ∷ 0 ∷ a ∷ b ∷ c ∷ d ∷ []) buffer) .reply .verdict
+      ≡ verdict
+      ((1 <? flag gives Status 3 0)
+      ∷ (not (live (m .device .transfer) (ofLe (a ∷ b ∷ c ∷ d ∷ []))) gives Status 7 1)
+      ∷ (not (m .device .transfer .phase is Receiving) gives Status 7 2)
+      ∷ [])
+  pub set-zeros : (low spare a b c d : ℕ) → low ≤ 7
+      → step m (call host 2 17 (low ∷ 0 ∷ spare ∷ a ∷ b ∷ c ∷ d ∷ []) buffer) .reply .verdict ≡ verdict ((100 <? spare gives Status 3 0) ∷ [])
+  -- one that is accepted stores its enable bits as they came, its spare and its words
   pub stored : (low high spare a b c d : ℕ) → step m (call host 2 17 (low ∷ high ∷ spare ∷ a ∷ b ∷ c ∷ d ∷ []) buffer) .reply .verdict ≡ Accepted
       → step m (call host 2 17 (low ∷ high ∷ spare ∷ a ∷ b ∷ c ∷ d ∷ []) buffer) .after .device .thresholds
       ≡ record { enable = low + 256 * high; spare = spare; media = a + 256 * b; controller = c + 256 * d }
 
-abbrev pub ReservedMeansZero : Type 0
-ReservedMeansZero = (m : Module) (host : ℕ) (buffer : List ℕ) → possible (m .device) ≡ true → length (m .area) ≡ 16384 → 132 ≤ length buffer → ReservedWrittenOut m host buffer
+-- and any of bits 3 to 15 makes the two bytes more than 7
+pub record ReservedMeansZero : Type 0 where
+  pub any-bit : (k low high : ℕ) → 3 ≤ k → on k (low + 256 * high) ≡ true → 7 < low + 256 * high
+  pub of-calls : (m : Module) (host : ℕ) (buffer : List ℕ) → possible (m .device) ≡ true → length (m .area) ≡ 16384 → 132 ≤ length buffer → ReservedWrittenOut m host buffer
 
 -- each bit of three bytes, and of two
 abbrev pub bits : List ℕ
