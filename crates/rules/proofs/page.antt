@@ -34,3 +34,5 @@ pub mod Adopting
 pub mod Health
 pub mod LastReading
 pub mod Reserved
+pub mod Places
+pub mod Compared

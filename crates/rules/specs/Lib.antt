@@ -76,3 +76,4 @@ pub mod Made
 pub mod Fault
 pub mod Adopt
 pub mod Reserved
+pub mod Compare

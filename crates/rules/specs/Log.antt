@@ -4,7 +4,7 @@ use Prim.Native.Nat.{ℕ, _+_, _*_, _/_, _%_}
 use mathlib.Core.{Bool.{Bool, not, _&&_}, List.List}
 use lib.ListN.{length, take, drop}
 use Rattle.rules.specs.Tests.{if_then_else_, _≤?_, _=?_}
-use Rattle.rules.specs.Bytes.{numberAt, zeros?}
+use Rattle.rules.specs.Bytes.{ofLe, numberAt, zeros?}
 use Rattle.rules.specs.declared.{Entry.Entry, Entry.the-variants.{Call, Tick, Power, Health, Bad}}
 
 -- "544-byte records"
@@ -12,23 +12,42 @@ abbrev pub recordSize : ℕ
 recordSize = 544
 
 -- "kind (1 call, 2 tick, 3 power), host (1 to 4), revision (2), function (2), request length (2, at most 536), request padded with zeros to 536."
+abbrev pub kindBytes : List ℕ → List ℕ
+kindBytes bytes = take 1 (drop 0 bytes)
+
+abbrev pub hostBytes : List ℕ → List ℕ
+hostBytes bytes = take 1 (drop 1 bytes)
+
+abbrev pub revisionBytes : List ℕ → List ℕ
+revisionBytes bytes = take 2 (drop 2 bytes)
+
+abbrev pub functionBytes : List ℕ → List ℕ
+functionBytes bytes = take 2 (drop 4 bytes)
+
+abbrev pub lengthBytes : List ℕ → List ℕ
+lengthBytes bytes = take 2 (drop 6 bytes)
+
+-- the request and its padding
+abbrev pub requestBytes : List ℕ → List ℕ
+requestBytes bytes = drop 8 bytes
+
 abbrev pub kindIn : List ℕ → ℕ
-kindIn bytes = numberAt 1 0 bytes
+kindIn bytes = ofLe (kindBytes bytes)
 
 abbrev pub hostIn : List ℕ → ℕ
-hostIn bytes = numberAt 1 1 bytes
+hostIn bytes = ofLe (hostBytes bytes)
 
 abbrev pub revisionIn : List ℕ → ℕ
-revisionIn bytes = numberAt 2 2 bytes
+revisionIn bytes = ofLe (revisionBytes bytes)
 
 abbrev pub functionIn : List ℕ → ℕ
-functionIn bytes = numberAt 2 4 bytes
+functionIn bytes = ofLe (functionBytes bytes)
 
 abbrev pub lengthIn : List ℕ → ℕ
-lengthIn bytes = numberAt 2 6 bytes
+lengthIn bytes = ofLe (lengthBytes bytes)
 
 abbrev pub requestIn : List ℕ → List ℕ
-requestIn bytes = take (lengthIn bytes) (drop 8 bytes)
+requestIn bytes = take (lengthIn bytes) (requestBytes bytes)
 
 -- the request is padded with zeros
 abbrev pub padded : List ℕ → Bool

@@ -198,3 +198,16 @@ pub enum ReadingBack {
     NotGoodImage,
     OutputTooShort,
 }
+
+// What a comparison of two logs comes to: how many leading places are equal, how many places differ, and how many bytes are left over; or that more differ than the
+// list holds, and how many in all.
+pub enum Comparison {
+    Compared {
+        leading: u64,
+        differing: u64,
+        left: u64,
+    },
+    Full {
+        differing: u64,
+    },
+}

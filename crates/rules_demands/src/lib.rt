@@ -8,6 +8,7 @@ ghost use Rattle.rules.specs.Fault.{RequestT03};
 ghost use Rattle.rules.specs.Adopt.{Adopting};
 ghost use Rattle.rules.specs.Health.{RequestT04};
 ghost use Rattle.rules.specs.Reserved.{RequestT05};
+ghost use Rattle.rules.specs.Compare.{RequestT06};
 ghost use Rattle.rules_demands.specs.Calls.{Demand1WrittenOut};
 ghost use Rattle.rules_demands.specs.Histories.{Demand3WrittenOut};
 ghost use Rattle.rules_demands.specs.Beside.{BesideWrittenOut};
@@ -78,4 +79,9 @@ pub fn request_t05()
     ensures { λ r. ⌜ RequestT05 ⌝ }
     ensures { λ r. ⌜ ReservedMeansZero ⌝ }
     ensures { λ r. ⌜ ReservedHeld ⌝ }
+{}
+
+// Document 02, T-06: what a report of two logs says of them, and what the rest is.
+pub fn request_t06()
+    ensures { λ r. ⌜ RequestT06 ⌝ }
 {}
