@@ -1,124 +1,60 @@
+-- `compare_logs::compare` meets its contract: the first n bytes of either log are those that are compared, and the list has room, or has not.
+-- Assumes nothing.
+use Rattle.compare_logs.proofs.Laws.{cut-lengths, list-full, all-listed}
+use Rattle.compare_places.{specs.declared.SoFar.SoFar, specs.SoFar.partListed}
+use lib.ListN.{take, length-take}
+use mathlib.Core.Path.{_≡_, _∙_, ap}
+use Prim.Native.Nat.{_-_}
+use native.Mathlib.Omega.{arith}
 use borrow.Author.Needs.{needs}
 use Rattle.compare_logs.proofs.compare.Statement.{statement}
 use Rattle.compare_logs.proofs.compare.Tie as tie
-use Rattle.compare_logs.proofs.compare.Reads as reads
-use Rattle.compare_logs.proofs.compare.Lts as lts
-use Rattle.compare_logs.proofs.common.Reads as common-reads
-use Rattle.compare_logs.proofs.count.Reads as count-reads
-use Rattle.compare_places.proofs.none.Reads as none-reads
-use Rattle.compare_places.proofs.with_part.Reads as with-part-reads
 
--- src/lib.rt:67:9
-common-requires : tie.Need-common-requires
-common-requires c κs = search needs
-
--- src/lib.rt:68:25
-sub-count : tie.Need-sub-count
-sub-count c = search needs
-
--- src/lib.rt:68:25
-part-count-start : tie.Need-part-count-start
-part-count-start c = search needs
-
--- src/lib.rt:68:25
-part-count-end : tie.Need-part-count-end
-part-count-end c = search needs
-
--- src/lib.rt:68:39
-sub-count-2 : tie.Need-sub-count-2
-sub-count-2 c = search needs
-
--- src/lib.rt:68:39
-part-count-start-2 : tie.Need-part-count-start-2
-part-count-start-2 c = search needs
-
--- src/lib.rt:68:39
-part-count-end-2 : tie.Need-part-count-end-2
-part-count-end-2 c = search needs
-
--- src/lib.rt:68:9
-count-requires : tie.Need-count-requires
-count-requires c κs = search needs
-
--- src/lib.rt:71:9
 returns : tie.Need-returns
-returns c = ?
+returns c =
+    let a = c .before .before .before .before .before .before .before .before .args in
+    list-full (a .first .now) (a .second .now) (c .before .before .before .before .common .result) (c .before .before .before .before .common .ensures .0) (c .before .count .ensures) (a .list .now) (c .if1 .taken)
 
--- src/lib.rt:73:17
-sub-left : tie.Need-sub-left
-sub-left c = search needs
-
--- src/lib.rt:73:36
-sub-left-2 : tie.Need-sub-left-2
-sub-left-2 c = search needs
-
--- src/lib.rt:73:17
-add-left : tie.Need-add-left
-add-left c = search needs
-
--- src/lib.rt:74:31
-none-requires : tie.Need-none-requires
-none-requires c κs = search needs
-
--- src/lib.rt:74:55
-sub-with-part : tie.Need-sub-with-part
-sub-with-part c = search needs
-
--- src/lib.rt:74:55
-part-with-part-start : tie.Need-part-with-part-start
-part-with-part-start c = search needs
-
--- src/lib.rt:74:55
-part-with-part-end : tie.Need-part-with-part-end
-part-with-part-end c = search needs
-
--- src/lib.rt:74:69
-sub-with-part-2 : tie.Need-sub-with-part-2
-sub-with-part-2 c = search needs
-
--- src/lib.rt:74:69
-part-with-part-start-2 : tie.Need-part-with-part-start-2
-part-with-part-start-2 c = search needs
-
--- src/lib.rt:74:69
-part-with-part-end-2 : tie.Need-part-with-part-end-2
-part-with-part-end-2 c = search needs
-
--- src/lib.rt:74:5
 with-part-requires : tie.Need-with-part-requires
-with-part-requires c κs = ?
+with-part-requires c κs =
+    let a = c .before .before .before .before .before .before .before .before .before .before .before .before .args in
+    let n = c .before .before .before .before .before .before .before .before .common .result in
+    let p : c .before .before .before .none .result .places ≡ 0 = ap (λ (s : SoFar). s .places) (c .before .before .before .none .ensures) in
+    let d : c .before .before .before .none .result .differing ≡ 0 = ap (λ (s : SoFar). s .differing) (c .before .before .before .none .ensures) in
+    let l = length-take (n - 0) (a .first .now) in
+    ((omega (arith, p, l), omega arith), cut-lengths (a .first .now) (a .second .now) n (c .before .before .before .before .before .before .before .before .common .ensures .0))
 
--- src/lib.rt:63:1
-same-length : tie.Need-same-length
-same-length c = search needs
-
--- src/lib.rt:63:1
 returns-2 : tie.Need-returns-2
-returns-2 c = ?
+returns-2 c =
+    let a = c .before .before .before .before .before .before .before .before .before .before .before .before .before .before .before .args in
+    let n = c .before .before .before .before .before .before .before .before .before .before .before .common .result in
+    let listed = ap (λ (s : SoFar). partListed s (take (n - 0) (a .first .now)) (take (n - 0) (a .second .now)) (a .list .now)) (c .before .before .before .before .before .before .none .ensures) in
+    all-listed (a .first .now) (a .second .now) n (c .before .before .before .before .before .before .before .before .before .before .before .common .ensures .0) (c .before .before .before .before .before .before .before .before .count .ensures) (a .list .now) (omega (arith, c .before .before .before .before .before .before .before .if1 .left)) (c .before .before .with-part .ensures .1 ∙ listed)
 
+-- by search: common-requires, sub-count, part-count-start, part-count-end, sub-count-2, part-count-start-2, part-count-end-2, count-requires, sub-left, sub-left-2, add-left, none-requires, sub-with-part, part-with-part-start, part-with-part-end, sub-with-part-2, part-with-part-start-2, part-with-part-end-2, same-length
 pub compare-spec : {M : Type 1} → statement M
 compare-spec =
     tie.close
     (tie.spec
-    common-requires
-    sub-count
-    part-count-start
-    part-count-end
-    sub-count-2
-    part-count-start-2
-    part-count-end-2
-    count-requires
+    (λ c κs. search needs)
+    (λ c. search needs)
+    (λ c. search needs)
+    (λ c. search needs)
+    (λ c. search needs)
+    (λ c. search needs)
+    (λ c. search needs)
+    (λ c κs. search needs)
     returns
-    sub-left
-    sub-left-2
-    add-left
-    none-requires
-    sub-with-part
-    part-with-part-start
-    part-with-part-end
-    sub-with-part-2
-    part-with-part-start-2
-    part-with-part-end-2
+    (λ c. search needs)
+    (λ c. search needs)
+    (λ c. search needs)
+    (λ c κs. search needs)
+    (λ c. search needs)
+    (λ c. search needs)
+    (λ c. search needs)
+    (λ c. search needs)
+    (λ c. search needs)
+    (λ c. search needs)
     with-part-requires
-    same-length
+    (λ c. search needs)
     returns-2)
