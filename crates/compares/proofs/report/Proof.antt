@@ -1,0 +1,15 @@
+-- `compares::report` meets its contract: by the test.
+-- Assumes nothing.
+use Rattle.compares.proofs.report.Statement.{statement}
+use Rattle.compares.proofs.report.Tie as tie
+
+returns : tie.Need-returns
+returns c =
+    simp (c .if1 .taken)
+
+returns-2 : tie.Need-returns-2
+returns-2 c =
+    simp (c .if1 .left)
+
+pub report-spec : {M : Type 1} → statement M
+report-spec = tie.close (tie.spec returns returns-2)
