@@ -49,7 +49,7 @@ NEARLY_FULL = ("reports_full", 4294967285,
 
 
 # The files of the independent program that are compiled for it, main's last.
-INDEPENDENT = ("module", "image", "image_files", "report", "replay")
+INDEPENDENT = ("module", "image", "image_files", "compare", "report", "replay")
 
 
 # The program behind bin/image, which takes no logs: its crate. tests/stdout writes that crate's files too, and tests/images tries it.

@@ -4,32 +4,18 @@
  *    independent answers FILE..   every answer's bytes, then the whole end state
  *    independent report FILE..    one report over all logs: which host got which answers
  *
- * The program's other word, image, is done in image_files.c.
+ * The program's other words, compare and image, are done in compare.c and image_files.c.
  */
 #include <stdio.h>
 #include <stdlib.h>
 
+#include "compare.h"
 #include "files.h"
 #include "image_files.h"
+#include "log.h"
 #include "module.h"
 #include "report.h"
 
-/* A log record: kind (1), host (1), revision (2), function (2), request length (2),
- * request padded with zeros. A health reading has its five bytes where a request begins. */
-enum {
-    LOG_RECORD = 544,
-    HOST_AT = 1,
-    REVISION_AT = 2,
-    FUNCTION_AT = 4,
-    LENGTH_AT = 6,
-    REQUEST_AT = 8,
-    REQUEST_MOST = LOG_RECORD - REQUEST_AT,
-    SPARE_AT = 8,
-    MEDIA_AT = 9,
-    CONTROLLER_AT = 11,
-    READING_END = 13,
-    RECORDS_AT_ONCE = 120
-};
 enum kind { BAD = 0, CALL = 1, TICK = 2, POWER = 3, HEALTH = 4 };
 
 /* Each word of the program: the page's text, the fuller trace, and the counts of all logs. */
@@ -118,7 +104,7 @@ static enum kind kind_of(const uint8_t *record)
 {
     size_t length = get16(record + LENGTH_AT);
 
-    switch (record[0]) {
+    switch (record[KIND_AT]) {
     case CALL:
         if (record[HOST_AT] < 1 || record[HOST_AT] > HOSTS || length > REQUEST_MOST)
             return BAD;
@@ -324,7 +310,7 @@ static const char *end(struct replay *replay)
  * where reading did, and the report counts nothing. */
 static const char *replay_log(struct replay *replay, FILE *log)
 {
-    static uint8_t records[RECORDS_AT_ONCE * LOG_RECORD];
+    static uint8_t records[LOG_PART];
     size_t got;
     bool begun = false;
 
@@ -380,6 +366,7 @@ static int misused(void)
           "usage: independent replay FILE..\n"
           "       independent answers FILE..\n"
           "       independent report [--from NUMBER] FILE..\n"
+          "       independent compare FILE FILE\n"
           "       independent image make VERSION FILE\n"
           "       independent image read FILE\n"
           "A FILE of - is standard input. Every count of a report begins at NUMBER, or at 0.\n",
@@ -399,6 +386,13 @@ static int image(int count, char **arguments)
     return misused();
 }
 
+static int compare(int count, char **arguments)
+{
+    if (count != 4 || (strcmp(arguments[2], "-") == 0 && strcmp(arguments[3], "-") == 0))
+        return misused();
+    return compare_files(arguments[2], arguments[3]);
+}
+
 int main(int count, char **arguments)
 {
     static struct replay replay;
@@ -410,6 +404,8 @@ int main(int count, char **arguments)
         return misused();
     if (strcmp(arguments[1], "image") == 0)
         return image(count, arguments);
+    if (strcmp(arguments[1], "compare") == 0)
+        return compare(count, arguments);
     if (strcmp(arguments[1], "replay") == 0)
         replay.text = REPLAY;
     else if (strcmp(arguments[1], "answers") == 0)
