@@ -6,6 +6,7 @@ use native.Mathlib.{Nat.{add-zero, add-assoc, add-sub-cancel-left}, Numerals.add
 use lib.{ListN.{length, take, drop, set, length-append, length-drop}, Seq.{sets, length-sets, take-all}}
 use Rattle.rules.specs.{Tests.{if_then_else_, _=?_}, Bytes.same?, Log.recordAt}
 use Rattle.rules.specs.Compare.{placesIn, fieldsDiffering, fieldBits, Difference, differenceAt, differencesTo, leadingOn, leadingTo, entry, entries}
+use Rattle.rules.proofs.page.Compared.{as-many}
 use Rattle.bytes_base.proofs.Parts.{rest}
 use Rattle.compare_places.specs.{declared.SoFar.SoFar, SoFar.{equalCounted, placeCounted, placeListed, countedTo, listedTo, partCounted, partListed}}
 
@@ -50,10 +51,6 @@ sets-both list i (x ∷ xs) ys =
 pub entries-both : (xs ys : List Difference) → entries (xs ++ ys) ≡ entries xs ++ entries ys
 entries-both [] ys = refl
 entries-both (d ∷ xs) ys = ap (λ (l : List ℕ). entry d ∷ l) (entries-both xs ys)
-
-pub as-many : (ds : List Difference) → length (entries ds) ≡ length ds
-as-many [] = refl
-as-many (d ∷ ds) = ap suc (as-many ds)
 
 -- before the first place of two logs
 module _ (s : SoFar) (first second : List ℕ) where

@@ -113,7 +113,7 @@ abbrev pub listAfter : (first second list : List ℕ) → List ℕ
 listAfter first second list =
     if length (differences first second) ≤? length list then splice 0 (entries (differences first second)) list else list
 
--- "the empty end of the first is handed back": the log in which the part lies, and the byte from which on
+-- what is handed back with a report: the rest, or where the list is full "the empty end of the first"
 abbrev pub restAfter : Comparison → (first second : List ℕ) → List ℕ
 restAfter (Compared l d n) first second = rest first second
 restAfter (Full d) first second = drop (length first) first
@@ -173,11 +173,22 @@ pub record Laid (first second : List ℕ) : Type 0 where
   -- a place differs exactly if one of its six fields does
   pub six-fields : (j : ℕ) → any? (placeFields first second j) ≡ not (placeEqual first second j)
   -- the leading places are equal, and the place after them, if there is one, is not
+  pub leads-places : leading first second ≤ places first second
   pub leads : (j : ℕ) → j < leading first second → placeEqual first second j ≡ true
   pub stops : leading first second < places first second → placeEqual first second (leading first second) ≡ false
   -- the rest is the longer log from the shorter's length on; where no place differs, the shorter's bytes with it make the longer
   pub first-longer : length second ≤ length first → (rest first second ≡ drop (length second) first) × (differences first second ≡ [] → second ++ rest first second ≡ first)
   pub second-longer : length first < length second → (rest first second ≡ drop (length first) second) × (differences first second ≡ [] → first ++ rest first second ≡ second)
+  -- "difference list full, exactly if more places differ than it holds, saying how many differ in all"
+  pub holds : (room : ℕ) → length (differences first second) ≤ room
+      → comparison first second room ≡ Compared (leading first second) (length (differences first second)) (left first second)
+  pub full : (room : ℕ) → room < length (differences first second) → comparison first second room ≡ Full (length (differences first second))
+  -- the differing places are the list's front, and what is past them stays; "the list stays as it came" where it is full
+  pub list-written : (list : List ℕ) → length (differences first second) ≤ length list
+      → listAfter first second list ≡ entries (differences first second) ++ drop (length (differences first second)) list
+  pub list-stays : (list : List ℕ) → length list < length (differences first second) → listAfter first second list ≡ list
+  -- "the empty end of the first is handed back"
+  pub empty-end : (room : ℕ) → room < length (differences first second) → restAfter (comparison first second room) first second ≡ drop (length first) first
 
 abbrev pub RequestT06 : Type 0
 RequestT06 = (first second : List ℕ) → Laid first second

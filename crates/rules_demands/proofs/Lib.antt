@@ -14,5 +14,6 @@ pub mod Images
 pub mod Faults
 pub mod Health
 pub mod Reserved
+pub mod Comparisons
 -- That demand 3 is not empty: the incident at sea, computed.
 pub mod Incident

@@ -15,3 +15,4 @@ pub mod Faults
 -- Readings: words by their heights, alarms and function 1 by examples.
 pub mod Health
 pub mod Reserved
+pub mod Comparisons

@@ -18,6 +18,7 @@ ghost use Rattle.rules_demands.specs.Images.{ImagesWrittenOut, ImagesHel
 ghost use Rattle.rules_demands.specs.Faults.{FaultsWrittenOut, AdoptingWrittenOut, FaultsHeld};
 ghost use Rattle.rules_demands.specs.Health.{HealthWrittenOut, HealthHeld};
 ghost use Rattle.rules_demands.specs.Reserved.{ReservedMeansZero, ReservedHeld};
+ghost use Rattle.rules_demands.specs.Comparisons.{ComparisonsWrittenOut, ComparisonsHeld};
 
 // Any call gets an answer, and a refusal leaves what it must.
 pub fn demand_1()
@@ -81,7 +82,9 @@ pub fn request_t05()
     ensures { λ r. ⌜ ReservedHeld ⌝ }
 {}
 
-// Document 02, T-06: what a report of two logs says of them, and what the rest is.
+// Document 02, T-06: what a report of two logs says of them, what the rest is, and when the list is full; the same written out; and examples.
 pub fn request_t06()
     ensures { λ r. ⌜ RequestT06 ⌝ }
+    ensures { λ r. ⌜ ComparisonsWrittenOut ⌝ }
+    ensures { λ r. ⌜ ComparisonsHeld ⌝ }
 {}

@@ -6,7 +6,9 @@ use native.Mathlib.{Nat.zero-add, Omega.arith}
 use borrow.Author.Tests.{lt-ltb, le-ltb, le-leb, lt-leb, eq-eqb, ne-eqb, ltb-true, ltb-false, leb-true, leb-false, eqb-true, eqb-false, not-false, not-true}
 use lib.{ListN.{length, take, drop, length-take, length-drop, take-append-drop}, Seq.{take-all, take-length}}
 use Rattle.rules.specs.{Tests.{if_then_else_, _≤?_, _<?_, _=?_}, Bytes.same?, Log.recordAt}
-use Rattle.rules.specs.Compare.{compared, beyond, placesIn, equalAt, fieldsDiffering, fieldsAt, Difference, differenceAt, differencesTo, leadingOn, leadingTo, places, leading, differences, placeEqual, placeFields, rest, left, listed?, Rising, FieldsTold, any?, Laid, RequestT06}
+use Rattle.rules.specs.Bytes.{splice}
+use Rattle.rules.specs.Compare.{compared, beyond, placesIn, equalAt, fieldsDiffering, fieldsAt, Difference, differenceAt, differencesTo, leadingOn, leadingTo, places, leading, differences, placeEqual, placeFields, rest, left, comparison, entry, entries, listAfter, restAfter, listed?, Rising, FieldsTold, any?, Laid, RequestT06}
+use Rattle.rules.specs.declared.{Comparison.Comparison, Comparison.the-variants.{Compared, Full}}
 use Rattle.rules.proofs.page.Places.{same-refl, six, as-long, all-equal}
 
 -- ---- which places are listed
@@ -191,6 +193,35 @@ module _ (first second : List ℕ) where
       longer-itself : rest first first ≡ drop (length first) first
       longer-itself = ap (λ (t : Bool). if t then beyond first first else beyond first first) (le-leb (length first) (length first) (omega arith))
 
+-- as many entries as places that differ
+pub as-many : (ds : List Difference) → length (entries ds) ≡ length ds
+as-many [] = refl
+as-many (d ∷ ds) = ap suc (as-many ds)
+
+-- a list that holds every differing place, and one that does not
+module _ (first second : List ℕ) where
+  abbrev told-of : Bool → Comparison
+  told-of t = if t then Compared (leading first second) (length (differences first second)) (left first second) else Full (length (differences first second))
+
+  abbrev list-of : (list : List ℕ) → Bool → List ℕ
+  list-of list t = if t then splice 0 (entries (differences first second)) list else list
+
+  fits : (room : ℕ) → length (differences first second) ≤ room → comparison first second room ≡ told-of true
+  fits room h = ap told-of (le-leb (length (differences first second)) room h)
+
+  over : (room : ℕ) → room < length (differences first second) → comparison first second room ≡ told-of false
+  over room h = ap told-of (lt-leb (length (differences first second)) room h)
+
+  written : (list : List ℕ) → length (differences first second) ≤ length list
+      → listAfter first second list ≡ entries (differences first second) ++ drop (length (differences first second)) list
+  written list h =
+      let e : 0 + length (entries (differences first second)) ≡ length (differences first second) = omega (arith, as-many (differences first second)) in
+      ap (list-of list) (le-leb (length (differences first second)) (length list) h)
+      ∙ ap (λ (n : ℕ). entries (differences first second) ++ drop n list) e
+
+  stays : (list : List ℕ) → length list < length (differences first second) → listAfter first second list ≡ list
+  stays list h = ap (list-of list) (lt-leb (length (differences first second)) (length list) h)
+
 pub request-T06 : RequestT06
 request-T06 first second =
     let a : List ℕ = compared first second in
@@ -203,8 +234,14 @@ request-T06 first second =
       rising = rises 0 n (differencesTo 0 a b n) (within a b n);
       fields-told = told a b n;
       six-fields = λ j. six (recordAt a j) (recordAt b j);
+      leads-places = led a b n .most;
       leads = led a b n .equal;
       stops = led a b n .stop;
       first-longer = longer-first first second;
       second-longer = longer-second first second;
+      holds = fits first second;
+      full = over first second;
+      list-written = written first second;
+      list-stays = stays first second;
+      empty-end = λ room h. ap (λ (r : Comparison). restAfter r first second) (over first second room h);
     }
