@@ -5,7 +5,7 @@ use Prim.Native.String.{String}
 use mathlib.Core.{Path._≡_, List.{List, [], _∷_, _++_}}
 use lib.ListN.{length, take}
 use Rattle.rules.specs.{Tests.{if_then_else_, _=?_}, Text.{ascii, decimal, field}}
-use Rattle.rules.specs.Compare.{fieldNames}
+use Rattle.rules.specs.Compare.{fieldNames, comparison, listAfter, differences, comparisonText}
 use Rattle.rules.specs.declared.{Comparison.Comparison, Comparison.the-variants.{Compared, Full}}
 
 -- a name for each bit that is on, the lowest first
@@ -36,3 +36,9 @@ reportRoom (Full d) = 64
 abbrev pub EntriesThere : Comparison → (list : List ℕ) → Type 0
 EntriesThere (Compared l d n) list = d ≤ length list
 EntriesThere (Full d) list = Unit {0}
+
+-- The entries that a comparison leaves in a list make the text that its differing places have, and a list that is full is not looked at.
+abbrev pub TextOfReport : Type 0
+TextOfReport =
+    (first second list : List ℕ)
+    → reportText (comparison first second (length list)) (listAfter first second list) ≡ comparisonText (comparison first second (length list)) (differences first second)
