@@ -1,97 +1,39 @@
 // Compares two logs, which two arguments name, and prints the report of document 02, T-06. `-` is standard input. The logs are read side by side in parts, so
 // that memory does not grow with them. What cannot be read or written is named on standard error, and nothing is printed of it.
-ghost use Prim.Native.Nat.{_-_, _≤_, _<_};
+ghost use Prim.Native.Nat.{_≤_, _<_};
 ghost use mathlib.Core.Path.{_≡_};
 ghost use lib.ListN.{length};
 ghost use Rattle.program_logs.specs.Turns.{partSize};
-ghost use Rattle.compare_text.specs.Lines.{reportText};
-ghost use Rattle.text.specs.Wrote.{WroteWithin};
-ghost use Rattle.compares.specs.Turned.{bothHave, Standing, turned, turnListed, toldOf};
-use compare_places::SoFar;
+ghost use Rattle.compare_turns.specs.Turned.{textRoom};
+use compare_turns::PLACES;
+use compare_turns::TEXT;
+use compare_turns::TURNS;
+use compare_turns::Told;
 use libc::STDERR_FILENO;
 use libc::STDOUT_FILENO;
+use program_files::Filled;
 use program_files::PART;
 use program_logs::NAME;
-use rules::Comparison;
 
-// The list holds 1,000 places; the text has a line of at most 64 bytes for each, and two lines more.
-const PLACES: usize = 1000;
-
-const TEXT: usize = 64064;
-
-// The most turns, 2 to the 40th: a loop has to end, and no log has so many parts.
-const TURNS: u64 = 1099511627776;
-
-// What was counted so far, how many bytes are left over, and which log could not be read.
-struct Told {
-    counted: SoFar,
-    left: u64,
+// What was told of two logs, and which of them could not be read to its end.
+struct Went {
+    told: Told,
     first: bool,
     second: bool,
 }
 
-// How much of two parts is compared.
-fn both_have(first: usize, second: usize) -> usize
-    ensures { λ r. ⌜ r ≡ bothHave first second ⌝ }
+// The next part of a log. Where the part before it did not fill the buffer the log is over, and is not asked again.
+fn next_part(log: i32, buf: &mut [u8; PART], before: usize) -> Filled
+    ensures { λ r. ⌜ r .have ≤ partSize ⌝ }
+    ensures { λ r. ⌜ (before < partSize → r .have ≡ 0) ⌝ }
 {
-    if first <= second {
-        return first;
-    }
-    second
-}
-
-// One turn: the fronts of two buffers are compared, and what one has more is left over.
-fn turn(
-    told: Told,
-    a: &[u8],
-    first: usize,
-    b: &[u8],
-    second: usize,
-    list: &mut [u64],
-    turns: u64,
-) -> Told
-    requires { ⌜ Standing turns told × (0 < turns) ⌝ }
-    requires { ⌜ (first ≤ length (now a)) × (second ≤ length (now b)) × (first ≤ partSize) × (second ≤ partSize) ⌝ }
-    ensures { λ r. ⌜ r ≡ turned told (now (a .entry)) (now (b .entry)) first second ⌝ }
-    ensures { λ r. ⌜ now (list .exit) ≡ turnListed told (now (a .entry)) (now (b .entry)) first second (now (list .entry)) ⌝ }
-    ensures { λ r. ⌜ Standing (turns - 1) r ⌝ }
-{
-    let n = both_have(first, second);
-    let left = told.left + (first - n) as u64 + (second - n) as u64;
-    let counted = compare_places::with_part(told.counted, &a[0..n], &b[0..n], list);
-    Told {
-        counted,
-        left,
-        ..told
-    }
-}
-
-// The report, with a list that holds 1,000 places.
-fn report(told: Told) -> Comparison
-    ensures { λ r. ⌜ r ≡ toldOf told ⌝ }
-{
-    let differing = told.counted.differing;
-    let fits = differing <= 1000;
-    if fits {
-        return Comparison::Compared {
-            leading: told.counted.leading,
-            differing,
-            left: told.left,
+    if before < PART {
+        return Filled {
+            have: 0,
+            failed: false,
         };
     }
-    Comparison::Full { differing }
-}
-
-// Before the first part.
-fn begin() -> Told
-    ensures { λ r. ⌜ Standing 1099511627776 r ⌝ }
-{
-    Told {
-        counted: compare_places::none(),
-        left: 0,
-        first: false,
-        second: false,
-    }
+    program_files::fill(log, buf)
 }
 
 // Reads both logs side by side to their ends.
@@ -101,33 +43,38 @@ fn go_through(
     a: &mut [u8; PART],
     b: &mut [u8; PART],
     list: &mut [u64; PLACES],
-) -> Told {
-    let mut told = begin();
+) -> Went {
+    let mut told = compare_turns::begin();
+    let mut one = PART;
+    let mut two = PART;
     let mut turns = TURNS;
     while turns > 0 {
-        let one = program_files::fill(first, a);
-        let two = program_files::fill(second, b);
-        if one.failed | two.failed {
-            return Told {
-                first: one.failed,
-                second: two.failed,
-                ..told
+        let of_first = next_part(first, a, one);
+        let of_second = next_part(second, b, two);
+        if of_first.failed | of_second.failed {
+            return Went {
+                told,
+                first: of_first.failed,
+                second: of_second.failed,
             };
         }
-        told = turn(told, a, one.have, b, two.have, list, turns);
-        if (one.have < PART) & (two.have < PART) {
-            return told;
+        one = of_first.have;
+        two = of_second.have;
+        told = compare_turns::turn(told, a, one, b, two, list, turns);
+        if (one < PART) & (two < PART) {
+            return Went {
+                told,
+                first: false,
+                second: false,
+            };
         }
         turns -= 1;
     }
-    told
-}
-
-// The text of the report, at the front of a buffer.
-fn put(out: &mut [u8; TEXT], told: Told, list: &[u64; PLACES]) -> usize
-    ensures { λ r. ⌜ r ≤ 64064 ⌝ }
-{
-    compare_text::put_report(out, report(told), list)
+    Went {
+        told,
+        first: false,
+        second: false,
+    }
 }
 
 // Writes the front of a buffer out.
@@ -142,7 +89,7 @@ fn write(out: &[u8], end: usize)
 
 // Writes the text of the report out.
 fn show(out: &mut [u8; TEXT], told: Told, list: &[u64; PLACES]) {
-    let end = put(out, told, list);
+    let end = compare_turns::put(out, told, list);
     write(out, end);
 }
 
@@ -165,15 +112,15 @@ fn main() {
     if second.fd < 0 {
         return;
     }
-    let told = go_through(first.fd, second.fd, &mut a, &mut b, &mut list);
-    if told.first {
+    let went = go_through(first.fd, second.fd, &mut a, &mut b, &mut list);
+    if went.first {
         program_files::fail_log(&name, first.size);
     }
-    if told.second {
+    if went.second {
         program_files::fail_log(&other, second.size);
     }
-    if told.first | told.second {
+    if went.first | went.second {
         return;
     }
-    show(&mut out, told, &list);
+    show(&mut out, went.told, &list);
 }

@@ -1,23 +1,22 @@
--- `compares::put` meets its contract: 1,000 entries and their lines have room.
+-- `compare_turns::put` meets its contract: 1,000 entries and their lines have room.
 -- Assumes nothing.
-use Rattle.compares.proofs.Laws.{room}
+use Rattle.compare_turns.proofs.Laws.{room, told-text}
 use native.Mathlib.Omega.{arith}
 use borrow.Author.Needs.{needs}
-use Rattle.compares.proofs.put.Statement.{statement}
-use Rattle.compares.proofs.put.Tie as tie
+use Rattle.compare_turns.proofs.put.Statement.{statement}
+use Rattle.compare_turns.proofs.put.Tie as tie
 
 put-report-requires : tie.Need-put-report-requires
 put-report-requires c κs =
-    let a = c .before .before .before .args in
-    let r = room (a .told) (a .list .now) (c .before .report .ensures) (search needs) in
-    (r .0, omega (arith, r .1))
+    let s = c .before .before .before .before in
+    let r = room (s .args .told) (s .args .list .now) (c .report .ensures) (s .pre .0) in
+    (r .0, omega (arith, r .1, s .pre .1))
 
 returns : tie.Need-returns
 returns c =
-    let a = c .before .before .before .before .args in
-    let r = room (a .told) (a .list .now) (c .before .before .report .ensures) (search needs) in
-    omega (arith, r .1, c .put-report .ensures .within)
+    let s = c .before .before .before .before .before .before .before in
+    told-text (s .args .told) (s .args .list .now) (c .before .before .before .report .ensures) (s .pre .0) (c .before .before .put-report .ensures)
 
--- by search: report-requires
+-- by search: report-requires, same-length
 pub put-spec : {M : Type 1} → statement M
-put-spec = tie.close (tie.spec (λ c κs. search needs) put-report-requires returns)
+put-spec = tie.close (tie.spec (λ c κs. search needs) put-report-requires (λ c. search needs) returns)

@@ -1,7 +1,7 @@
--- `compares::report` meets its contract: by the test.
+-- `compare_turns::report` meets its contract: by the test.
 -- Assumes nothing.
-use Rattle.compares.proofs.report.Statement.{statement}
-use Rattle.compares.proofs.report.Tie as tie
+use Rattle.compare_turns.proofs.report.Statement.{statement}
+use Rattle.compare_turns.proofs.report.Tie as tie
 
 returns : tie.Need-returns
 returns c =

@@ -1,9 +1,9 @@
--- `compares::turn` meets its contract: what both parts have is compared, and what one has more is left over.
+-- `compare_turns::turn` meets its contract: what both parts have is compared, and what one has more is left over.
 -- Assumes nothing.
-use Rattle.compares.proofs.Laws.{turned-is, listed-is, stands-on}
+use Rattle.compare_turns.proofs.Laws.{turned-is, listed-is, stands-on}
 use borrow.Author.Needs.{needs}
-use Rattle.compares.proofs.turn.Statement.{statement}
-use Rattle.compares.proofs.turn.Tie as tie
+use Rattle.compare_turns.proofs.turn.Statement.{statement}
+use Rattle.compare_turns.proofs.turn.Tie as tie
 
 returns : tie.Need-returns
 returns c =
