@@ -7,10 +7,10 @@ use borrow.Author.Tests.{le-leb, lt-leb, leb-true, leb-false}
 use lib.{ListN.{length, take, drop, length-take, length-drop}, Seq.sets-eq}
 use denote.Ref.{RefT}
 use Rattle.rules.{specs.Tests.{if_then_else_, _≤?_}, specs.Bytes.splice, proofs.page.Places.as-long, proofs.page.Compared.as-many, specs.declared.Comparison.Comparison, specs.declared.Comparison.the-variants.{Compared, Full}}
-use Rattle.rules.specs.Compare.{compared, beyond, Difference, leading, differences, left, comparison, entries, listAfter}
+use Rattle.rules.specs.Compare.{compared, beyond, Difference, leading, differences, left, comparison, entries, listAfter, restAfter, rest as restOf}
 use Rattle.compare_places.{specs.declared.SoFar.SoFar, specs.SoFar.{nonePlaces, partCounted, partListed}}
 use Rattle.bytes_base.proofs.Parts.{rest}
-use Rattle.compare_logs.specs.Part.{Lies, RestOf}
+use Rattle.compare_logs.specs.Part.{Lies, RestOf, HandedBack}
 
 -- a part as the code's range has it
 pub lies : (log : RefT (List ℕ)) (from : ℕ) (name : ℕ)
@@ -27,6 +27,19 @@ module _ (first second part : RefT (List ℕ)) where
   pub second-longer : length (first .now) < length (second .now) → Lies second (length (first .now)) part → RestOf first second part
   second-longer h p =
       subst (λ (t : Bool). if t then Lies first (length (second .now)) part else Lies second (length (first .now)) part) (sym (lt-leb (length (second .now)) (length (first .now)) h)) p
+
+  -- the bytes of what is handed back
+  pub bytes-back : (r : Comparison) → HandedBack r first second part → part .now ≡ restAfter r (first .now) (second .now)
+  bytes-back (Compared leading differing left) p = go (length (second .now) ≤? length (first .now)) refl
+    where
+      go : (t : Bool) → (length (second .now) ≤? length (first .now)) ≡ t → part .now ≡ restOf (first .now) (second .now)
+      go true e =
+          subst (λ (t : Bool). if t then Lies first (length (second .now)) part else Lies second (length (first .now)) part) e p .bytes
+          ∙ ap (λ (t : Bool). if t then beyond (first .now) (second .now) else beyond (second .now) (first .now)) (sym e)
+      go false e =
+          subst (λ (t : Bool). if t then Lies first (length (second .now)) part else Lies second (length (first .now)) part) e p .bytes
+          ∙ ap (λ (t : Bool). if t then beyond (first .now) (second .now) else beyond (second .now) (first .now)) (sym e)
+  bytes-back (Full differing) p = p .bytes
 
 -- a list cut to the length that it has when it is cut
 cut-again : (k : ℕ) (log : List ℕ) → take (length (take k log)) log ≡ take k log

@@ -2,7 +2,7 @@
 ghost use mathlib.Core.Path.{_≡_};
 ghost use lib.ListN.{length};
 ghost use Prim.Native.Nat.{_≤_};
-ghost use Rattle.rules.specs.Compare.{compared, comparison, listAfter};
+ghost use Rattle.rules.specs.Compare.{compared, comparison, listAfter, restAfter};
 ghost use Rattle.compare_places.specs.SoFar.{nonePlaces, partCounted};
 ghost use Rattle.compare_logs.specs.Part.{RestOf, Lies, HandedBack};
 use compare_places::SoFar;
@@ -31,6 +31,7 @@ fn end<'a>(log: &'a [u8]) -> &'a [u8]
 // What is handed back with a report of the two logs: the rest of the longer one, or where the list was full the empty end of the first.
 pub fn handed_back<'a>(first: &'a [u8], second: &'a [u8], report: Comparison) -> &'a [u8]
     ensures { λ r. ⌜ HandedBack report (first .entry) (second .entry) r ⌝ }
+    ensures { λ r. ⌜ now r ≡ restAfter report (now (first .entry)) (now (second .entry)) ⌝ }
 {
     match report {
         Comparison::Compared {
