@@ -48,6 +48,11 @@ NEARLY_FULL = ("reports_full", 4294967285,
                ("incident", "page", "mask", "ticks", "power", "bad-records", "ten-wrong", *["tail-only"] * 11, "empty"))
 
 
+# The program behind bin/compare, which takes two logs: its crate, and the stories whose logs the gate runs it on. The second comes on standard input.
+COMPARES = "compares"
+PAIR = ("ship", "laptop")
+
+
 # The files of the independent program that are compiled for it, main's last.
 INDEPENDENT = ("module", "image", "image_files", "compare", "report", "replay")
 
@@ -134,9 +139,14 @@ def stale(path, crate):
     return max(source.stat().st_mtime for source in sources if source.exists()) > path.stat().st_mtime
 
 
+def crate_of(word):
+    """The crate of the proved program of a text."""
+    return COMPARES if word == "compare" else PROGRAMS[word].crate
+
+
 def proved(name, folder=None):
     """The command of the proved program of a text, from target/bin or another folder."""
-    return proved_crate(PROGRAMS[name].crate, folder)
+    return proved_crate(crate_of(name), folder)
 
 
 def proved_crate(crate, folder=None):
@@ -173,7 +183,7 @@ def stand_in(name, folder):
     """Builds the independent program as a program of one text: like a proved program it takes logs alone and ends with
     status 0."""
     sources = [(f"independent/{file}.c", ["-Dmain=independent_main"]) for file in INDEPENDENT]
-    return by_clang(folder, PROGRAMS[name].crate, [*sources, ("clang/stand_in.c", [f'-DTEXT="{name}"'])])
+    return by_clang(folder, crate_of(name), [*sources, ("clang/stand_in.c", [f'-DTEXT="{name}"'])])
 
 
 # ---- Texts ----

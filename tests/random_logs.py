@@ -1,4 +1,4 @@
-"""Random logs that lead deep: made(SEED, N) is log N of a seed, always the same.
+"""Random logs that lead deep: made(SEED, N) is log N of a seed, always the same; pair(SEED, N) is it and a second log to lay beside it.
 
 Whole transfers of 1 to 128 records in odd pieces, good, damaged and damaged twice, which the end names; hosts with right, old
 and guessed contexts; 7, 8 and 9 ticks; power cycles in between; passphrases up to and past the limit; freezes; thresholds and
@@ -398,3 +398,53 @@ class Maker:
 
 def made(seed, number):
     return Maker(random.Random(f"{seed}/{number}")).make()
+
+
+# ---- A second log ----
+
+def turned(chance, log, at):
+    log[at] ^= 1 << chance.randrange(8)
+
+
+def records_in(log):
+    return len(log) // records.RECORD
+
+
+def change(chance, log):
+    """Changes a log in one way: bytes turned, most of them in front of the request; records dropped, or added; a cut; a short tail."""
+    kind = chance.randrange(8)
+    if kind < 3 and log:
+        for _ in range(chance.choice((1, 1, 2, 20))):
+            inside = chance.choice((chance.randrange(9), chance.randrange(records.RECORD)))
+            turned(chance, log, min(chance.randrange(records_in(log) + 1) * records.RECORD + inside, len(log) - 1))
+    elif kind == 3 and records_in(log):
+        at = chance.randrange(records_in(log)) * records.RECORD
+        del log[at:at + records.RECORD * chance.choice((1, 1, 2))]
+    elif kind == 4:
+        at = chance.randrange(records_in(log) + 1) * records.RECORD
+        log[at:at] = records.event(chance.choice((records.TICK, records.POWER, 9))) * chance.choice((1, 1, 3))
+    elif kind == 5:
+        edge = chance.randrange(records_in(log) + 1) * records.RECORD
+        del log[chance.choice((edge, edge + chance.randrange(10), chance.randrange(len(log) + 1))):]
+    elif kind == 6:
+        log += bytes(chance.randrange(3) for _ in range(chance.choice((1, 8, 9, 543))))
+
+
+def pair(seed, number):
+    """Log N of a seed and one that is a few changes away, or a quite different one; in either order. Now and then both are so long that the list is full."""
+    chance = random.Random(f"pair {seed}/{number}")
+    one = bytearray(made(seed, number))
+    if chance.randrange(30) == 0 and one:
+        one = (one * (1002 * records.RECORD // len(one) + 1))[:1002 * records.RECORD]
+    other = bytearray(one)
+    if chance.randrange(30) == 0:
+        other = bytearray(made(seed, number + 1))
+    if records_in(one) > 999:
+        for place in range(chance.choice((999, 1000, 1001, 1002))):
+            if place < records_in(other):
+                turned(chance, other, place * records.RECORD + chance.randrange(records.RECORD))
+    for _ in range(chance.choice((0, 1, 1, 2, 3))):
+        change(chance, other)
+    if chance.randrange(4) == 0:
+        change(chance, one)
+    return (bytes(one), bytes(other)) if chance.randrange(2) else (bytes(other), bytes(one))
