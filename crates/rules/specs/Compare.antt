@@ -56,7 +56,7 @@ differencesTo number first second zero = []
 differencesTo number first second (suc j) =
     differencesTo number first second j ++ differenceAt (number + j) (recordAt first j) (recordAt second j)
 
--- "how many leading records are equal": of so many places, all of which led where the count is their number, and one more
+-- "how many leading records are equal": one place more leads if it is equal and all before it lead, that is, if the count so far is its own number
 abbrev pub leadingOn : (leading number : ℕ) → (equal : Bool) → ℕ
 leadingOn leading number equal = if leading =? number && equal then number + 1 else leading
 
