@@ -18,7 +18,7 @@ abbrev pub beyond : (log other : List ℕ) → List ℕ
 beyond log other = drop (length other) log
 
 -- "Records are compared by place, bad ones and a short tail too": place j has the bytes of record j, and the last may be cut. A place has at least one byte
--- compared (B24), so that so many bytes have so many places.
+-- compared (B24), so that n bytes have n / 544 places, rounded up.
 abbrev pub placesIn : (bytes : List ℕ) → ℕ
 placesIn bytes = (length bytes + (recordSize - 1)) / recordSize
 
@@ -60,7 +60,7 @@ differencesTo number first second (suc j) =
 abbrev pub leadingOn : (leading number : ℕ) → (equal : Bool) → ℕ
 leadingOn leading number equal = if leading =? number && equal then number + 1 else leading
 
--- the same of the first j places
+-- how many lead after the first j places of what is compared, where `leading` led before them
 unfoldable pub leadingTo : (leading number : ℕ) (first second : List ℕ) (j : ℕ) → ℕ
 leadingTo leading number first second zero = leading
 leadingTo leading number first second (suc j) =
@@ -96,7 +96,8 @@ module _ (first second : List ℕ) where
   abbrev pub comparison : (room : ℕ) → Comparison
   comparison room = if length differences ≤? room then Compared leading (length differences) left else Full (length differences)
 
--- An entry of the difference list is one number: the place, times 64, and a bit for each field that differs, the lowest for the kind.
+-- An entry of the difference list is one number: the place, times 64, and a bit for each field that differs: kind 1, host 2, revision 4, function 8, length 16,
+-- request 32.
 abbrev pub fieldBits : List Bool → ℕ
 fieldBits [] = 0
 fieldBits (differs ∷ fields) = (if differs then 1 else 0) + 2 * fieldBits fields
@@ -118,7 +119,7 @@ abbrev pub restAfter : Comparison → (first second : List ℕ) → List ℕ
 restAfter (Compared l d n) first second = rest first second
 restAfter (Full d) first second = drop (length first) first
 
--- The report as text, with a list that holds 1,000 places: the words of docs/DECISIONS.md (B27).
+-- The report as text, with a list that holds 1,000 places: the words of docs/DECISIONS.md (B27, the report as text).
 abbrev pub listRoom : ℕ
 listRoom = 1000
 
@@ -157,6 +158,7 @@ abbrev pub FieldsTold : (at : ℕ → List Bool) → List Difference → Type 0
 FieldsTold at [] = Unit {0}
 FieldsTold at (d ∷ ds) = (d .fields ≡ at (d .place)) × FieldsTold at ds
 
+-- whether any of them is true
 abbrev pub any? : List Bool → Bool
 any? [] = false
 any? (b ∷ bs) = b || any? bs
@@ -166,6 +168,9 @@ pub record Laid (first second : List ℕ) : Type 0 where
   -- "A report with no difference and nothing left over means equal logs, and the other way round."
   pub means-equal : differences first second ≡ [] → left first second ≡ 0 → first ≡ second
   pub other-way-round : first ≡ second → (differences first second ≡ []) × (left first second ≡ 0)
+  -- the same of the report itself, whatever the list holds: of equal logs every place leads
+  pub report-means-equal : (room lead : ℕ) → comparison first second room ≡ Compared lead 0 0 → first ≡ second
+  pub report-of-equal : (room : ℕ) → first ≡ second → comparison first second room ≡ Compared (places first second) 0 0
   -- a place is listed exactly if it is one that is compared and differs; in order, each once, with its fields
   pub listed : (j : ℕ) → listed? j (differences first second) ≡ (j <? places first second && not (placeEqual first second j))
   pub rising : Rising 0 (differences first second)

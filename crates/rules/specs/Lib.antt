@@ -18,15 +18,17 @@
 -- The signs, by what they are for:
 --
 -- A definition begins with `abbrev` or `unfoldable`, its name and, behind `:`, its type; the line below is what it says. `f x y` is f of x and y. `x .f` is the
--- field f of x; `f x .g` is the field g of `f x`; `x .f y` is the field f of x, of y; `p .0` and `p .1` are the two halves of a pair. `λ m. ..` is "given m, ..".
--- `record { f = a; g = b }` is the record with these fields. Underscores in a name show where its parts go: `_with-ticks_` is written `t with-ticks 0`. Where
--- several lines begin with the name, they are cases: the line whose left side fits is the one that counts. Below `module _ (M : A) where` every definition
--- takes M first.
--- Numbers: ℕ is 0, 1, 2 and so on, of any size; `zero` and `suc n` are 0 and n + 1; `n - m` is 0 where m is the greater; `/` and `%` divide, without and for the
--- remainder; `^` is a power; `0x` begins a number in base 16. ℤ is the whole numbers, those below 0 too: `pos n` is n, `negℤ z` is minus z.
+-- field f of x; `f x .g` is the field g of `f x`; `x .f y` is the field f of x, of y; `(a, b)` is a pair, and `p .0` and `p .1` are the two halves of one.
+-- `λ m. ..` is "given m, ..". `record { f = a; g = b }` is the record with these fields. Underscores in a name show where its parts go: `_with-ticks_` is
+-- written `t with-ticks 0`. Where several lines begin with the name, they are cases: the line whose left side fits is the one that counts. Below
+-- `module _ (M : A) where` every definition takes M first.
+-- Numbers: ℕ is 0, 1, 2 and so on, of any size; `zero` and `suc n` are 0 and n + 1; `n - m` is 0 where m is the greater; `min n m` is the smaller; `/` and `%`
+-- divide, without and for the remainder; `^` is a power; `0x` begins a number in base 16. ℤ is the whole numbers, those below 0 too: `pos n` is n, `negℤ z` is
+-- minus z.
 -- Tests come out true or false, and their type ends in `Bool`: `=?`, `<?` and `≤?` compare two numbers; `&&` is and, `||` is or, `not` turns true and false round.
 -- Lists: `[]` is empty, `a ∷ b` is a before the list b; `++` joins two lists; `take n` and `drop n` are a list's first n and all after them; `length s` is how
--- many s has; `replicate n a` is a, n times. "\n" is a line feed.
+-- many s has; `replicate n a` is a, n times; `map f s` is f of each of s; `getD s i d` is the one at place i, counted from 0, and d past the end. "\n" is a
+-- line feed.
 -- Types: `A → B → C` takes an A and a B and gives a C; `(n : A)` names what is taken, and in braces, `{h : A}`, it is left unwritten where it is used; `A × B` is a
 -- pair of both. `data` lists the forms that a thing may have, `record` the fields that it has. What ends in `Type 0`, its name with a capital, is a sort of
 -- thing, as `Event` is, or a statement, as `Honest` is.

@@ -2,7 +2,7 @@
 -- Assumes nothing.
 use Prim.Native.Nat.{ℕ, zero, suc, _+_, _-_, _*_, _/_, _≤_, _<_}
 use mathlib.Core.{Path.{_≡_, refl, sym, _∙_, ap, subst}, Bool.{Bool, true, false, not, _&&_, _||_, false≢true, true≢false}, List.{List, [], _∷_, _++_}}
-use native.Mathlib.{Nat.zero-add, Omega.arith}
+use native.Mathlib.{Nat.zero-add, Numerals.add-one, Omega.arith}
 use borrow.Author.Tests.{lt-ltb, le-ltb, le-leb, lt-leb, eq-eqb, ne-eqb, ltb-true, ltb-false, leb-true, leb-false, eqb-true, eqb-false, not-false, not-true}
 use lib.{ListN.{length, take, drop, length-take, length-drop, take-append-drop}, Seq.{take-all, take-length}}
 use Rattle.rules.specs.{Tests.{if_then_else_, _≤?_, _<?_, _=?_}, Bytes.same?, Log.recordAt}
@@ -193,6 +193,47 @@ module _ (first second : List ℕ) where
       longer-itself : rest first first ≡ drop (length first) first
       longer-itself = ap (λ (t : Bool). if t then beyond first first else beyond first first) (le-leb (length first) (length first) (omega arith))
 
+-- every place of a log beside itself leads
+all-lead : (a : List ℕ) (n : ℕ) → leadingTo 0 0 a a n ≡ n
+unfolding leadingTo
+all-lead a zero = refl
+all-lead a (suc n) =
+    ap (λ (k : ℕ). leadingOn k (0 + n) (equalAt a a n)) (all-lead a n)
+    ∙ ap (λ (k : ℕ). leadingOn n k (equalAt a a n)) (zero-add n)
+    ∙ ap (leadingOn n n) (same-refl (recordAt a n))
+    ∙ ap (λ (t : Bool). if t && true then n + 1 else n) (eq-eqb n n refl)
+    ∙ add-one n
+
+none-there : (ds : List Difference) → length ds ≡ 0 → ds ≡ []
+none-there [] e = refl
+none-there (d ∷ ds) e = absurd (omega (arith, e))
+
+-- what a report with no difference and nothing left over has
+abbrev Clean : Comparison → Type 0
+Clean (Compared l d n) = (d ≡ 0) × (n ≡ 0)
+Clean (Full d) = ⊥
+
+module _ (first second : List ℕ) where
+  clean-equal : (room lead : ℕ) → comparison first second room ≡ Compared lead 0 0 → first ≡ second
+  clean-equal room lead e = go (length (differences first second) ≤? room) (subst Clean (sym e) (refl, refl))
+    where
+      go : (t : Bool) → Clean (if t then Compared (leading first second) (length (differences first second)) (left first second) else Full (length (differences first second)))
+          → first ≡ second
+      go true c = equal-logs first second (none-there (differences first second) (c .0)) (c .1)
+      go false c = absurd c
+
+  equal-clean : (room : ℕ) → first ≡ second → comparison first second room ≡ Compared (places first second) 0 0
+  equal-clean room e =
+      subst (λ (other : List ℕ). comparison first other room ≡ Compared (places first other) 0 0) e itself
+    where
+      itself : comparison first first room ≡ Compared (places first first) 0 0
+      itself =
+          let is = logs-equal first first refl in
+          ap (λ (ds : List Difference). if length ds ≤? room then Compared (leading first first) (length ds) (left first first) else Full (length ds)) (is .0)
+          ∙ ap (λ (t : Bool). if t then Compared (leading first first) 0 (left first first) else Full 0) (le-leb 0 room (omega arith))
+          ∙ ap (λ (n : ℕ). Compared (leading first first) 0 n) (is .1)
+          ∙ ap (λ (n : ℕ). Compared n 0 0) (all-lead (compared first first) (places first first))
+
 -- as many entries as places that differ
 pub as-many : (ds : List Difference) → length (entries ds) ≡ length ds
 as-many [] = refl
@@ -230,6 +271,8 @@ request-T06 first second =
     record {
       means-equal = equal-logs first second;
       other-way-round = logs-equal first second;
+      report-means-equal = clean-equal first second;
+      report-of-equal = equal-clean first second;
       listed = λ j. listed-to a b j n;
       rising = rises 0 n (differencesTo 0 a b n) (within a b n);
       fields-told = told a b n;
