@@ -1,4 +1,5 @@
--- The demands a second time, written out: each promise of rules with none of its own words, and proved from it. Nobody has to read them for the demands, which
+-- The demands a second time, written out: each promise of rules with none of its own words (but for Comparisons, which takes a report's words from rules and says
+-- by bytes, numbers and examples what they come to), and proved from it. Nobody has to read them for the demands, which
 -- are rules' Demand1.antt and Demand3.antt; they are here so that none of those can come to say less unseen (docs/DECISIONS.md, p).
 pub mod Calls
 pub mod Words
