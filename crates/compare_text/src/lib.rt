@@ -5,7 +5,7 @@ ghost use lib.ListN.{length, take};
 ghost use Rattle.rules.specs.Tests.{if_then_else_, _=?_};
 ghost use Rattle.rules.specs.Text.{decimal};
 ghost use Rattle.text.specs.Wrote.{WroteWithin};
-ghost use Rattle.compare_text.specs.Lines.{namesOf, entryLine, entryLines, reportText, reportRoom, EntriesThere};
+ghost use Rattle.compare_text.specs.Lines.{namesOf, entryLine, entryLines, reportText, reportRoom, EntriesThere, TextOfReport};
 ghost use Rattle.rules.specs.declared.Comparison.the-variants.{Compared};
 use rules::Comparison;
 
@@ -100,3 +100,8 @@ pub fn put_report(out: &mut [u8], report: Comparison, list: &[u64]) -> usize
         Comparison::Full { differing } => put_number(out, 0, b"full ", differing),
     }
 }
+
+// The text of the entries that a comparison leaves in a list is that of the differing places: the theorem, cited here so that the gate fails where it is gone.
+pub fn text_of_report()
+    ensures { λ r. ⌜ TextOfReport ⌝ }
+{}

@@ -6,7 +6,7 @@ ghost use Rattle.rules.specs.Compare.{listRoom};
 ghost use Rattle.program_logs.specs.Turns.{partSize};
 ghost use Rattle.compare_text.specs.Lines.{reportText};
 ghost use Rattle.text.specs.Wrote.{WroteWithin};
-ghost use Rattle.compare_turns.specs.Turned.{mostTurns, textRoom, bothHave, Standing, begun, turned, turnListed, toldOf};
+ghost use Rattle.compare_turns.specs.Turned.{mostTurns, textRoom, bothHave, Standing, begun, turned, turnListed, toldOf, TextOfTurns};
 use compare_places::SoFar;
 use rules::Comparison;
 
@@ -90,3 +90,8 @@ pub fn put(out: &mut [u8], told: Told, list: &[u64]) -> usize
 {
     compare_text::put_report(out, report(told), list)
 }
+
+// What is kept after any turns is what is said of the logs so far, and its text is theirs: the theorem, cited here so that the gate fails where it is gone.
+pub fn text_of_turns()
+    ensures { λ r. ⌜ TextOfTurns ⌝ }
+{}
