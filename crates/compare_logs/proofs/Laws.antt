@@ -6,11 +6,11 @@ use native.Mathlib.{Nat.zero-add, Omega.arith}
 use borrow.Author.Tests.{le-leb, lt-leb, leb-true, leb-false}
 use lib.{ListN.{length, take, drop, length-take, length-drop}, Seq.sets-eq}
 use denote.Ref.{RefT}
-use Rattle.rules.{specs.Tests.{if_then_else_, _≤?_}, specs.Bytes.splice, proofs.page.Places.as-long, proofs.page.Compared.as-many, specs.declared.Comparison.Comparison, specs.declared.Comparison.the-variants.{Compared, Full}}
+use Rattle.rules.{specs.Tests.{if_then_else_, _≤?_}, specs.Bytes.splice, proofs.page.Places.as-long, proofs.page.Compared.{as-many, request-T06}, specs.declared.Comparison.Comparison, specs.declared.Comparison.the-variants.{Compared, Full}}
 use Rattle.rules.specs.Compare.{compared, beyond, Difference, leading, differences, left, comparison, entries, listAfter, restAfter, rest as restOf}
 use Rattle.compare_places.{specs.declared.SoFar.SoFar, specs.SoFar.{nonePlaces, partCounted, partListed}}
 use Rattle.bytes_base.proofs.Parts.{rest}
-use Rattle.compare_logs.specs.Part.{Lies, RestOf, HandedBack}
+use Rattle.compare_logs.specs.Part.{Lies, RestOf, HandedBack, WithItsReport}
 
 -- a part as the code's range has it
 pub lies : (log : RefT (List ℕ)) (from : ℕ) (name : ℕ)
@@ -40,6 +40,14 @@ module _ (first second part : RefT (List ℕ)) where
           subst (λ (t : Bool). if t then Lies first (length (second .now)) part else Lies second (length (first .now)) part) e p .bytes
           ∙ ap (λ (t : Bool). if t then beyond (first .now) (second .now) else beyond (second .now) (first .now)) (sym e)
   bytes-back (Full differing) p = p .bytes
+
+  -- with the report that belongs to it
+  pub with-report : (r : Comparison) → HandedBack r first second part → WithItsReport r first second part
+  with-report r p =
+      record {
+        the-end = λ room e h. subst (λ (r : Comparison). HandedBack r first second part) (e ∙ request-T06 (first .now) (second .now) .full room h) p;
+        the-rest = λ room e h. subst (λ (r : Comparison). HandedBack r first second part) (e ∙ request-T06 (first .now) (second .now) .holds room h) p;
+      }
 
 -- a list cut to the length that it has when it is cut
 cut-again : (k : ℕ) (log : List ℕ) → take (length (take k log)) log ≡ take k log

@@ -4,7 +4,7 @@ ghost use lib.ListN.{length};
 ghost use Prim.Native.Nat.{_≤_};
 ghost use Rattle.rules.specs.Compare.{compared, comparison, listAfter, restAfter};
 ghost use Rattle.compare_places.specs.SoFar.{nonePlaces, partCounted};
-ghost use Rattle.compare_logs.specs.Part.{RestOf, Lies, HandedBack};
+ghost use Rattle.compare_logs.specs.Part.{RestOf, Lies, HandedBack, WithItsReport};
 use compare_places::SoFar;
 use rules::Comparison;
 
@@ -32,6 +32,7 @@ fn end<'a>(log: &'a [u8]) -> &'a [u8]
 pub fn handed_back<'a>(first: &'a [u8], second: &'a [u8], report: Comparison) -> &'a [u8]
     ensures { λ r. ⌜ HandedBack report (first .entry) (second .entry) r ⌝ }
     ensures { λ r. ⌜ now r ≡ restAfter report (now (first .entry)) (now (second .entry)) ⌝ }
+    ensures { λ r. ⌜ WithItsReport report (first .entry) (second .entry) r ⌝ }
 {
     match report {
         Comparison::Compared {
