@@ -1,12 +1,14 @@
 -- Laws of the walk over the records, and of what the tests together say.
 -- Assumes nothing.
-use mathlib.Core.{Path.{_≡_, refl, sym, _∙_, ap, subst}, Bool.{Bool, true, false}, List.List}
+use mathlib.Core.{Path.{_≡_, refl, sym, _∙_, ap, subst}, Bool.{Bool, true, false, _&&_}, List.List}
 use Prim.Native.Nat.{ℕ, zero, suc, _+_, _-_, _*_, _/_, _≤_, _<_}
 use native.Mathlib.{Nat.{add-sub-cancel-left, sub-zero}, Omega.arith}
-use lib.{ListN.{length, take, drop}, Seq.drop-drop}
+use lib.{ListN.{length, take, drop, length-drop}, Seq.{drop-drop, length-take-le}}
 use Rattle.rules.{specs.Image.{goodRecord, goodSize, versionOf}, specs.Fault.{Fault, none, _of-record_, recordFault, _or-else_, recordsFault, firstFault, judged, imageOf, imageRecord}}
 use Rattle.rules.{specs.Tests.{_=?_, if_then_else_}, specs.declared.Reason.Reason, specs.declared.Reason.the-variants.Size, specs.declared.Image.the-variants.{Good, Bad}}
 use Rattle.rules.proofs.page.Faults.{good-clean, bad-unclean, zero-unclean}
+use Rattle.rules.{specs.Bytes.AreBytes, proofs.page.Le.{drop-bytes, take-bytes}, proofs.page.Choice.and-true}
+use Rattle.image_record.{specs.Front.{frontOf, goodBehind}, proofs.Fronts.front-tests}
 use Rattle.image_check.specs.Walk.{firstBad}
 
 -- the records after number i begin where it ends
@@ -60,6 +62,47 @@ module _ (n version i : ℕ) (bytes : List ℕ) (whole : firstBad (n - i) i n ve
   no-record-left h =
       let none-left : n - i ≡ 0 = omega arith in
       rw none-left at whole
+
+-- a record that was tested by its front, as the part of the slice that was handed on, is good
+module _ (n version : ℕ) (bytes : List ℕ) (few : n < 65536) (are : AreBytes bytes) (long : length bytes ≡ n * 128) where
+  good-there : (i at front : ℕ) → i < n → at ≡ i * 128 → front ≡ frontOf i n version
+      → goodBehind front version (take (at + 128 - at) (drop at bytes)) ≡ true
+      → goodRecord i n version (take (i * 128 + 128 - i * 128) (drop (i * 128) bytes)) ≡ true
+  good-there i at front one place front-is good =
+      let size : i * 128 + 128 - i * 128 ≡ 128 = omega arith in
+      let left : 128 ≤ length (drop (i * 128) bytes) = rw length-drop (omega (arith, long, one)) in
+      let part-long = length-take-le (i * 128 + 128 - i * 128) (drop (i * 128) bytes) (rw size left) in
+      let by-front : goodBehind front version (take (at + 128 - at) (drop at bytes))
+      ≡ goodBehind (frontOf i n version) version (take (i * 128 + 128 - i * 128) (drop (i * 128) bytes)) =
+      λ k. goodBehind (front-is k) version (take (place k + 128 - place k) (drop (place k) bytes)) in
+      sym (front-tests i n version _ (take-bytes (i * 128 + 128 - i * 128) (drop (i * 128) bytes) (drop-bytes (i * 128) bytes are)) (omega (arith, part-long, size)) (omega (arith, one, few)) few)
+      ∙ sym by-front ∙ good
+
+  -- where two of them are, the first bad one of those left is still that of the whole
+  two-good : (i at front : ℕ) → i + 1 < n → at ≡ i * 128 → front ≡ frontOf i n version
+      → firstBad (n - i) i n version (drop (i * 128) bytes) ≡ firstBad n 0 n version bytes
+      → goodBehind front version (take (at + 128 - at) (drop at bytes)) ≡ true
+      → goodBehind (front + 1) version (take (at + 128 + 128 - (at + 128)) (drop (at + 128) bytes)) ≡ true
+      → firstBad (n - (i + 1 + 1)) (i + 1 + 1) n version (drop ((i + 1 + 1) * 128) bytes) ≡ firstBad n 0 n version bytes
+  two-good i at front room place front-is whole one-good other-good =
+      let one : i < n = omega (arith, room) in
+      let first = good-record-goes-on n version i bytes whole one (good-there i at front one place front-is one-good) in
+      let next-place : at + 128 ≡ (i + 1) * 128 = omega (arith, place) in
+      let next-front : front + 1 ≡ frontOf (i + 1) n version = omega (arith, front-is) in
+      good-record-goes-on n version (i + 1) bytes first room (good-there (i + 1) (at + 128) (front + 1) room next-place next-front other-good)
+
+  -- so a turn of two records goes on from the place behind them
+  pub two-good-go-on : (at front : ℕ) → at ≡ at / 256 * 256 → at < n / 2 * 256 → front ≡ frontOf (at / 128) n version
+      → firstBad (n - at / 128) (at / 128) n version (drop (at / 128 * 128) bytes) ≡ firstBad n 0 n version bytes
+      → (goodBehind front version (take (at + 128 - at) (drop at bytes))
+      && goodBehind (front + 1) version (take (at + 128 + 128 - (at + 128)) (drop (at + 128) bytes))) ≡ true
+      → (front + 2 ≡ frontOf ((at + 128 + 128) / 128) n version)
+      × (firstBad (n - (at + 128 + 128) / 128) ((at + 128 + 128) / 128) n version (drop ((at + 128 + 128) / 128 * 128) bytes) ≡ firstBad n 0 n version bytes)
+  two-good-go-on at front place room front-is whole good =
+      let both = and-true (goodBehind front version (take (at + 128 - at) (drop at bytes))) _ good in
+      let next : (at + 128 + 128) / 128 ≡ at / 128 + 1 + 1 = omega arith in
+      let later = two-good (at / 128) at front (omega (arith, place, room)) (omega (arith, place)) front-is whole (both .0) (both .1) in
+      (omega (arith, front-is, next), ap (λ (i : ℕ). firstBad (n - i) i n version (drop (i * 128) bytes)) next ∙ later)
 
 -- where the walk of an image whose version is not zero stops: past its last record, and then there is no fault; or at one whose fault is the first
 data Stopped (n version k : ℕ) (bytes : List ℕ) (fault : Fault) : Type 0 where

@@ -1,8 +1,9 @@
 // Document 01, "Good image": whether the received bytes are one, records of 128 bytes with no header; and where they are not, document 02, T-03: their first fault.
-// One record is crates/image_record. One walk decides: it ends at the first bad record, and only that one is looked at test by test.
+// One record is crates/image_record. One walk decides: it takes two records a turn as long as both are good, then one by one; it ends at the first bad record, and
+// only that one is looked at test by test.
 ghost use mathlib.Core.Path.{_≡_};
-ghost use Prim.Native.Nat.{_*_, _≤_, _<_};
-ghost use lib.ListN.{length};
+ghost use Prim.Native.Nat.{_-_, _*_, _/_, _≤_, _<_};
+ghost use lib.ListN.{length, drop};
 ghost use Rattle.rules.specs.Fault.{none, recordFault, judged, imageOf, imageRecord};
 ghost use Rattle.image_check.specs.Walk.{firstBad};
 use rules::IMAGE_RECORD;
@@ -11,12 +12,35 @@ use rules::MOST_RECORDS;
 use rules::Reason;
 use rules::VERSION_PLACE;
 
+// A place before which all records are good, by twos: the first bad one of those from there on is that of the whole. The record's front, its first eight bytes, goes
+// up by one with its number; the place alone is counted beside it.
+fn good_twos(n: u16, version: u64, bytes: &[u8]) -> usize
+    requires { ⌜ length (now bytes) ≡ n * 128 ⌝ }
+    ensures { λ r. ⌜ (r / 128 ≤ n) × (firstBad (n - r / 128) (r / 128) n version (drop (r / 128 * 128) (now (bytes .entry))) ≡ firstBad n 0 n version (now (bytes .entry))) ⌝ }
+{
+    let end = (n as usize) / 2 * (2 * IMAGE_RECORD);
+    let mut front = (n as u64) * 65536 + version % 4294967296 * 4294967296;
+    let mut at: usize = 0;
+    while at < end {
+        let middle = at + IMAGE_RECORD;
+        let next = middle + IMAGE_RECORD;
+        let good = image_record::good_two(front, version, &bytes[at..middle], &bytes[middle..next]);
+        if !good {
+            return at;
+        }
+        front += 2;
+        at = next;
+    }
+    at
+}
+
 // The number of the first bad record; n where all are good.
 fn first_bad(n: u16, version: u64, bytes: &[u8]) -> u16
     requires { ⌜ length (now bytes) ≡ n * 128 ⌝ }
     ensures { λ r. ⌜ r ≡ firstBad n 0 n version (now (bytes .entry)) ⌝ }
 {
-    let mut i: u16 = 0;
+    let place = good_twos(n, version, bytes);
+    let mut i = (place / IMAGE_RECORD) as u16;
     while i < n {
         let at = (i as usize) * IMAGE_RECORD;
         let end = at + IMAGE_RECORD;

@@ -8,7 +8,7 @@ use Rattle.rules.{specs.Bytes.{ofLe, numberAt}, specs.Image.{sumOfWords, goodRe
 use Rattle.rules.{specs.Fault.{none, _of-record_, sumTest, recordFault}, specs.declared.Reason.the-variants.{Number, Count, Version, Sum}}
 
 -- the sum of one word more is the sum so far and that word
-sum-of-one-more : (words : ℕ) (bytes : List ℕ)
+pub sum-of-one-more : (words : ℕ) (bytes : List ℕ)
     → sumOfWords (suc words) bytes ≡ sumOfWords words bytes + numberAt 4 (words * 4) bytes
 unfolding sumOfWords
 sum-of-one-more zero bytes = omega arith

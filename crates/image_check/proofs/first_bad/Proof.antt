@@ -9,16 +9,14 @@ use Rattle.image_check.proofs.{Laws.{good-record-goes-on, bad-record-de
 use Rattle.image_check.proofs.first_bad.Tie as tie
 
 abbrev Inv-loop : tie.InvT-loop
-Inv-loop n version bytes i₀ i =
+Inv-loop n version bytes place i₀ i =
     (i ≤ n) × (firstBad (n - i) i n version (drop (i * 128) bytes) ≡ firstBad n 0 n version bytes)
 
 abbrev μ-loop : tie.MeasureT-loop
-μ-loop n version bytes i₀ i = n - i
+μ-loop n version bytes place i₀ i = n - i
 
 loop-holds : tie.Need-loop-holds Inv-loop μ-loop
-loop-holds c =
-    let a = c .before .args in
-    (search needs, ap (λ (left : ℕ). firstBad left 0 a.n a.version a.bytes.now) (sub-zero a.n))
+loop-holds c = c .good-twos .ensures
 
 returns : tie.Need-returns Inv-loop μ-loop
 returns c =
@@ -37,13 +35,15 @@ returns-2 c =
     let k = c .before in
     no-record-left _ _ _ _ (k .loop .inv .1) (omega (arith, k .loop .inv .0, c .loop-test .left))
 
--- by search: cast-at, mul-at, add-end, sub-good-record, part-good-record-start, part-good-record-end, good-record-requires, add-i, loop-less
+-- by search: good-twos-requires, cast-i, cast-at, mul-at, add-end, sub-good-record, part-good-record-start, part-good-record-end, good-record-requires, add-i, loop-less
 pub first-bad-spec : {M : Type 1} → statement M
 first-bad-spec =
     tie.close
     (tie.spec
     Inv-loop
     μ-loop
+    (λ c κs. search needs)
+    (λ c. search needs)
     loop-holds
     (λ c. search needs)
     (λ c. search needs)
