@@ -23,5 +23,10 @@ first-half k at bytes h =
     let two : at + 1 < length bytes = omega arith in
     let next : suc at ≡ at + 1 = omega arith in
     let after : suc (at + 1) ≡ at + 2 = omega arith in
-    omega (arith, first-byte (suc k) at (at + 1) bytes one next, first-byte k (at + 1) (at + 2) bytes two after,
-      first-byte 1 at (at + 1) bytes one next, first-byte 0 (at + 1) (at + 2) bytes two after)
+    omega (
+      arith,
+      first-byte (suc k) at (at + 1) bytes one next,
+      first-byte k (at + 1) (at + 2) bytes two after,
+      first-byte 1 at (at + 1) bytes one next,
+      first-byte 0 (at + 1) (at + 2) bytes two after,
+    )

@@ -47,8 +47,14 @@ fn row(record: &[u8], at: usize) -> u32
     requires { ⌜ at + 16 ≤ length (now «record») ⌝ }
     ensures { λ r. ⌜ r ≡ sumOfWords 4 (drop at (now («record» .entry))) % 2 ^ 32 ⌝ }
 {
-    let front = std::num::wrapping_add_u32(bytes_numbers::word(record, at), bytes_numbers::word(record, at + 4));
-    let back = std::num::wrapping_add_u32(bytes_numbers::word(record, at + 8), bytes_numbers::word(record, at + 12));
+    let front = std::num::wrapping_add_u32(
+        bytes_numbers::word(record, at),
+        bytes_numbers::word(record, at + 4),
+    );
+    let back = std::num::wrapping_add_u32(
+        bytes_numbers::word(record, at + 8),
+        bytes_numbers::word(record, at + 12),
+    );
     std::num::wrapping_add_u32(front, back)
 }
 
