@@ -2,6 +2,7 @@
 ghost use mathlib.Core.Path.{_≡_};
 ghost use Prim.Native.Nat.{_≤_};
 ghost use lib.ListN.{length};
+ghost use Rattle.rules.specs.Bytes.{splice};
 ghost use Rattle.rules.specs.Numbers.{areaSize};
 ghost use Rattle.rules.specs.Refusals.{verdict};
 ghost use Rattle.rules.specs.Transfer.{Start, sendOf, finishOf, startChecks, transferChecks, transferChange};
@@ -24,6 +25,18 @@ pub fn start(t: Transfer) -> Transfer
     }
 }
 
+// A piece, to the front of a part of the area. It goes through an array of its own: so the compiler need not ask whether the piece lies where it is written to,
+// leaves the array away, and copies at once.
+fn put_piece(part: &mut [u8], piece: &[u8])
+    requires { ⌜ (length (now piece) ≤ length (now part)) × (length (now piece) ≤ 512) ⌝ }
+    ensures { λ r. ⌜ now (part .exit) ≡ splice 0 (now (piece .entry)) (now (part .entry)) ⌝ }
+{
+    let size = piece.len();
+    let mut own = [0u8; 512];
+    bytes_base::copy(&mut own, piece);
+    bytes_base::copy(part, &own[0..size]);
+}
+
 // The piece, which starts at byte 12 of the request, goes into the part of the area from offset to offset plus length.
 pub fn send(t: Transfer, area: &mut [u8], request: &[u8]) -> Transfer
     requires { ⌜ length (now area) ≡ areaSize ⌝ }
@@ -34,7 +47,7 @@ pub fn send(t: Transfer, area: &mut [u8], request: &[u8]) -> Transfer
     let offset = bytes_numbers::word(request, 4) as usize;
     let size = bytes_numbers::word(request, 8);
     let end = offset + size as usize;
-    bytes_base::copy(&mut area[offset..end], &request[12..]);
+    put_piece(&mut area[offset..end], &request[12..]);
     let received = t.received + size;
     let p = t.phase;
     Transfer {

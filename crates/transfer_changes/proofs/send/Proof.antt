@@ -7,7 +7,7 @@ use lib.ListN.{length, take, drop}
 use Rattle.rules.{specs.Bytes.{splice, numberAt}, proofs.page.Accepted.{SendFits, send-fits}}
 use Rattle.bytes_base.proofs.Parts.{rest, part-long, lent-copy}
 use borrow.Author.Needs.{needs}
-use Rattle.transfer_changes.proofs.send.Statement.{statement}
+use Rattle.transfer_changes.proofs.{Pieces.piece-short, send.Statement.statement}
 use Rattle.transfer_changes.proofs.send.Tie as tie
 
 -- what acceptance says of the numbers that were read
@@ -17,16 +17,19 @@ fits c =
     let q = a .request .now in
     rw (c .before .word .ensures, c .word2 .ensures) (send-fits (a .t) (numberAt 4 0 q) (numberAt 4 4 q) (numberAt 4 8 q) (drop 12 q) (c .before .before .before .before .pre .1 .1))
 
-part-copy-end : tie.Need-part-copy-end
-part-copy-end c = let f = fits c in omega (arith, c .before .before .before .before .pre .0)
+part-put-piece-end : tie.Need-part-put-piece-end
+part-put-piece-end c = let f = fits c in omega (arith, c .before .before .before .before .pre .0)
 
-copy-requires : tie.Need-copy-requires
-copy-requires c κs =
+put-piece-requires : tie.Need-put-piece-requires
+put-piece-requires c κs =
     let k = c .before .before in
     let a = k .before .before .before .before .args in
     let f = fits k in
     let h : k .before .word .result + k .word2 .result ≤ length (a .area .now) = omega (arith, k .before .before .before .before .pre .0) in
-    rw (rest 12 (a .request .now), part-long (k .before .word .result) (k .word2 .result) (a .area .now) [] h) (omega arith)
+    let q = a .request .now in
+    let short : k .word2 .result ≤ 512 =
+    rw (k .word2 .ensures) (piece-short (a .t) (numberAt 4 0 q) (numberAt 4 4 q) (numberAt 4 8 q) (drop 12 q) (k .before .before .before .before .pre .1 .1)) in
+    (rw (rest 12 q, part-long (k .before .word .result) (k .word2 .result) (a .area .now) [] h) (omega arith), rw (rest 12 q) (omega (arith, f .whole, short)))
 
 add-received : tie.Need-add-received
 add-received c = let f = fits (c .before .before .before .before .before .before) in omega arith
@@ -40,12 +43,12 @@ returns c =
     record {
       transfer-is = simp (k .word2 .ensures);
       area-is = lent-copy (k .before .word .result) (k .word2 .result) (a .area .now) _ h (drop 12 (a .request .now)) (omega arith)
-          (c .before .before .before .copy .ensures ∙ ap (λ (z : List ℕ). splice 0 z (take (k .before .word .result + k .word2 .result - k .before .word .result) (drop (k .before .word .result) (a .area .now)))) (rest 12 (a .request .now)))
+          (c .before .before .before .put-piece .ensures ∙ ap (λ (z : List ℕ). splice 0 z (take (k .before .word .result + k .word2 .result - k .before .word .result) (drop (k .before .word .result) (a .area .now)))) (rest 12 (a .request .now)))
           ∙ ap (λ (o : ℕ). splice o (drop 12 (a .request .now)) (a .area .now)) (k .before .word .ensures);
     }
 
--- by search: word-requires, cast-offset, word-requires-2, cast-end, add-end, sub-copy, part-copy-start, sub-copy-2, part-copy-start-2,
--- part-copy-end-2, same-length
+-- by search: word-requires, cast-offset, word-requires-2, cast-end, add-end, sub-put-piece, part-put-piece-start, sub-put-piece-2, part-put-piece-start-2,
+-- part-put-piece-end-2, same-length
 pub send-spec : {M : Type 1} → statement M
 send-spec =
     tie.close
@@ -57,11 +60,11 @@ send-spec =
     (λ c. search needs)
     (λ c. search needs)
     (λ c. search needs)
-    part-copy-end
+    part-put-piece-end
     (λ c. search needs)
     (λ c. search needs)
     (λ c. search needs)
-    copy-requires
+    put-piece-requires
     add-received
     (λ c. search needs)
     returns)
