@@ -64,7 +64,7 @@ holds c = holdsFrom (c .from) (c .deeds) (c .ends)
 -- the numbers of the rows that do not hold
 abbrev pub failing : (number : ℕ) → List Case → List ℕ
 failing number [] = []
-failing number (c ∷ cases) = if holds c then failing (number + 1) cases else number ∷ failing (number + 1) cases
+failing number (c ∷ cases) = (if holds c then [] else number ∷ []) ++ failing (number + 1) cases
 
 -- calls by host 1 at revision 2, but where a revision is named; a Send, a Finish and a Query with context 1
 abbrev at-revision : (revision index : ℕ) (request : List ℕ) → Event
