@@ -42,6 +42,23 @@ void device_fresh(struct device *device)
     device->running = 1;
 }
 
+/* What a temperature word stands for, in sixteenths of a degree: sign in bit 15, and 0 has two. */
+static int32_t sixteenths(uint16_t word)
+{
+    int32_t size = word & 0x7FFF;
+
+    return (word & 0x8000) != 0 ? -size : size;
+}
+
+uint8_t device_trips(const struct device *device)
+{
+    unsigned spare = device->read_spare < device->spare;
+    unsigned media = sixteenths(device->read_media) > sixteenths(device->media);
+    unsigned controller = sixteenths(device->read_controller) > sixteenths(device->controller);
+
+    return (uint8_t)((spare | media << 1 | controller << 2) & device->enable);
+}
+
 bool device_possible(const struct device *device)
 {
     if (device->phase > FAILED || device->enabled > 1 || device->locked > 1 || device->frozen > 1)
@@ -67,7 +84,8 @@ bool device_possible(const struct device *device)
     if (!device->enabled && !all_zero(device->passphrase, PASSPHRASE_BYTES))
         return false;
     return device->attempts <= WRONG_MOST && device->enable <= ENABLE_ALL
-        && device->spare <= SPARE_MOST && device->read_spare <= SPARE_MOST;
+        && device->spare <= SPARE_MOST && device->read_spare <= SPARE_MOST
+        && device->trips == device_trips(device);
 }
 
 /* The current context is live in every phase but Idle. */
@@ -144,35 +162,18 @@ static uint32_t set_threshold(struct device *device, const uint8_t *request)
     device->spare = request[2];
     device->media = get16(request + 3);
     device->controller = get16(request + 5);
+    device->trips = device_trips(device);
     return DONE;
 }
 
 /* ---- Health readings ---- */
-
-/* What a temperature word stands for, in sixteenths of a degree: sign in bit 15, and 0 has two. */
-static int32_t sixteenths(uint16_t word)
-{
-    int32_t size = word & 0x7FFF;
-
-    return (word & 0x8000) != 0 ? -size : size;
-}
-
-/* Which enabled alarms the reading trips; their bits are those of the enable bits. */
-static uint8_t alarm_trips(const struct device *device)
-{
-    unsigned spare = device->read_spare < device->spare;
-    unsigned media = sixteenths(device->read_media) > sixteenths(device->media);
-    unsigned controller = sixteenths(device->read_controller) > sixteenths(device->controller);
-
-    return (uint8_t)((spare | media << 1 | controller << 2) & device->enable);
-}
 
 /* Table 3-2 of the V1.6 paper, of which only these fields are marked valid. */
 static uint32_t get_health(const struct device *device, uint8_t *answer)
 {
     put32(answer + 4, 1u << 1 | 1u << 3 | 1u << 4 | 1u << 9); /* spare, temperatures, trips */
     answer[13] = device->read_spare;
-    answer[15] = alarm_trips(device);
+    answer[15] = device->trips;
     put16(answer + 16, device->read_media);
     put16(answer + 18, device->read_controller);
     return DONE;
@@ -191,6 +192,7 @@ int32_t device_reading(struct device *device, const uint8_t *area, size_t area_l
     device->read_spare = spare;
     device->read_media = media;
     device->read_controller = controller;
+    device->trips = device_trips(device);
     return 0;
 }
 

@@ -39,6 +39,7 @@ struct device {
     uint8_t read_spare;  /* the last health reading: spare and two temperatures */
     uint16_t read_media;
     uint16_t read_controller;
+    uint8_t trips;       /* the alarms that thresholds and reading trip */
     uint8_t phase;       /* an enum phase */
     uint8_t ticks;       /* ticks left */
     uint8_t fault;       /* in Failed the image's first fault, an enum fault */
@@ -51,6 +52,10 @@ struct device {
 };
 
 void device_fresh(struct device *device);
+
+/* Which enabled alarms the reading trips; their bits are those of the enable bits. A possible
+ * record keeps this byte. */
+uint8_t device_trips(const struct device *device);
 
 /* Any other record is refused with R3. */
 bool device_possible(const struct device *device);

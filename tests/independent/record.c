@@ -1,7 +1,7 @@
 /* The device record's 128 bytes, little-endian:
  *
  *    0 phase          6 enable bits (2)     32 spare threshold           40 spare read
- *    1 enabled        8 contexts (4)        33 zero                      41 zero
+ *    1 enabled        8 contexts (4)        33 zero                      41 trips
  *    2 locked        12 received (4)        34 media threshold (2)       42 media read (2)
  *    3 frozen        16 running version (8) 36 controller threshold (2)  44 controller read (2)
  *    4 attempts      24 staged version (8)  38 fault                     46 zeros to 63
@@ -30,6 +30,7 @@ void record_encode(const struct device *device, uint8_t record[RECORD_BYTES])
     record[38] = device->fault;
     record[39] = device->fault_record;
     record[40] = device->read_spare;
+    record[41] = device->trips;
     put16(record + 42, device->read_media);
     put16(record + 44, device->read_controller);
     memcpy(record + 64, device->passphrase, PASSPHRASE_BYTES);
@@ -38,7 +39,7 @@ void record_encode(const struct device *device, uint8_t record[RECORD_BYTES])
 static bool is_record(const uint8_t *record, size_t record_len)
 {
     return record_len == RECORD_BYTES && record[0] <= FAILED && record[1] <= 1 && record[2] <= 1
-        && record[3] <= 1 && record[33] == 0 && record[41] == 0 && all_zero(record + 46, 18)
+        && record[3] <= 1 && record[33] == 0 && all_zero(record + 46, 18)
         && all_zero(record + 96, 32);
 }
 
@@ -65,6 +66,7 @@ bool record_decode(const uint8_t *record, size_t record_len, struct device *devi
     device->fault = record[38];
     device->fault_record = record[39];
     device->read_spare = record[40];
+    device->trips = record[41];
     device->read_media = get16(record + 42);
     device->read_controller = get16(record + 44);
     memcpy(device->passphrase, record + 64, PASSPHRASE_BYTES);
@@ -139,14 +141,19 @@ int32_t independent_adopt(uint8_t *record, size_t record_len)
     record_decode(record, record_len, &device);
     if (device_possible(&device))
         return 0;
-    if (device.phase != FAILED || !all_zero(record + 38, 26)) /* as they were before */
+    if (device.trips != 0)
         return R3;
-    device.fault = SIZE_FAULT; /* with any fault it is possible, if it was before */
+    device.trips = device_trips(&device);
+    bool no_fault = device.phase == FAILED && all_zero(record + 38, 26);
+    if (no_fault)
+        device.fault = SIZE_FAULT; /* with any it is possible, if it was before */
     if (!device_possible(&device))
         return R3;
-    device.phase = IDLE;
-    device.received = 0;
-    device.fault = NO_FAULT;
+    if (no_fault) {
+        device.phase = IDLE;
+        device.received = 0;
+        device.fault = NO_FAULT;
+    }
     record_encode(&device, record);
     return 0;
 }

@@ -24,9 +24,10 @@ int32_t independent_power(uint8_t *record, size_t record_len, const uint8_t *are
 int32_t independent_reading(uint8_t *record, size_t record_len, const uint8_t *area,
                             size_t area_len, uint8_t spare, uint16_t media, uint16_t controller);
 
-/* Takes over a record kept from before Failed had a fault, when bytes 38 to 63 were zero: Failed
- * without one becomes Idle with nothing received, and a record that is possible stays as it is.
- * 0, or R3 with nothing written where the bytes are neither. */
+/* Takes over a record kept from before. Before the trips byte was kept it was zero, and becomes
+ * what it must be. Before Failed had a fault, bytes 38 to 63 were zero: Failed without one becomes
+ * Idle with nothing received. A record that is possible stays as it is. 0, or R3 with nothing
+ * written where the bytes are none of these. */
 int32_t independent_adopt(uint8_t *record, size_t record_len);
 
 #endif

@@ -271,6 +271,7 @@ static void write_state(const struct device *device, const uint8_t *area)
     write_bytes("passphrase ", device->passphrase, PASSPHRASE_BYTES);
     write_fields("fault", fault, 2);
     write_fields("reading", reading, 3);
+    write_field("trips ", device->trips);
     write_bytes("area ", area, AREA_BYTES);
 }
 
