@@ -35,7 +35,7 @@ PROGRAMS = {
     # What layouts are compared by: each function's answers, each end state, and each other line once. How calls follow each other is
     # the module's work, and the replay's logs tell it.
     "answers": Program("answers", (
-        "functions", "lengths", "mask", "health", "thresholds", "starts", "queries", "aborts", "frozen", "ten-wrong",     # answers
+        "functions", "lengths", "mask", "health", "trips", "thresholds", "starts", "queries", "aborts", "frozen", "ten-wrong",     # answers
         "empty", "area-stays", "ticks", "three-hosts", "edge-of-area",      # ends: idle, receiving, verifying, staged, failed
         "fault-size", "fault-number", "fault-count", "fault-version", "fault-sum", "fault-over", "fault-power",     # faults
         "bad-records", "page")),                                            # lines: bad, short
