@@ -36,3 +36,4 @@ pub mod LastReading
 pub mod Reserved
 pub mod Places
 pub mod Compared
+pub mod TripsKept

@@ -1,10 +1,10 @@
--- Document 02, T-03, and the records that were kept before it: one in Failed has no reason, and so is possible no more. Such a record is taken over, once
--- (docs/DECISIONS.md, r).
+-- Document 02, T-03 and T-08, and the records that were kept before them. Before T-03 one in Failed has no reason, and before T-08 none has a trips byte: it is zero.
+-- Where such a record is possible no more, it is taken over, once (docs/DECISIONS.md, r).
 -- Assumes nothing.
 use mathlib.Core.{Path._≡_, Logic._↔_, Bool.{Bool, true, false, _&&_, _||_}}
 use Rattle.rules.specs.Tests.{if_then_else_, _=?_}
 use Rattle.rules.specs.With.{_with-phase_, _with-received_, _with-transfer_}
-use Rattle.rules.specs.Record.{given, possible, possibleNumbers, possibleSecurity, possibleThresholds}
+use Rattle.rules.specs.Record.{given, possible, possibleParts, possibleNumbers, possibleSecurity, possibleThresholds, renewed}
 use Rattle.rules.specs.declared.{Phase.the-variants.{Idle, Failed}, Device.Device, Reading.Reading}
 
 -- no reading kept: T-04 came after T-03
@@ -19,22 +19,28 @@ possibleBefore d =
     && possibleThresholds (d .thresholds)
     && noReading (d .reading)
 
+-- kept before T-08, whose byte was zero: possible as T-04 left it, or as before T-03
+unfoldable pub keptBefore : Device → Bool
+keptBefore d = d .trips =? 0 && (possibleParts d || possibleBefore d)
+
 abbrev pub adoptable : Device → Bool
-adoptable d = possible d || possibleBefore d
+adoptable d = possible d || keptBefore d
 
 -- Idle with received 0, and nothing else changes
 abbrev pub idleAgain : Device → Device
 idleAgain d = d with-transfer (d .transfer with-phase Idle with-received 0)
 
--- one that is possible stays as it is
+-- One that is possible stays as it is. The trips byte of any other is renewed; and where its parts are not possible, it is Idle again too.
 abbrev pub adopted : Device → Device
-adopted d = if possible d then d else idleAgain d
+adopted d = if possible d then d else if possibleParts d then renewed d else renewed (idleAgain d)
 
--- What is taken over is possible; of the records that were possible before, those in Failed alone are not possible as they are. One that is possible stays as it
--- is, any other is Idle with received 0; and no context is given out again: as many are given out as before.
+-- What is taken over is possible. Of the records that were possible before T-03, those in Failed alone have parts that are not possible. One that is possible stays
+-- as it is; of any other with possible parts the trips byte alone is renewed, and any other is Idle with received 0 besides. And no context is given out again: as
+-- many are given out as before.
 pub record Adopting : Type 0 where
   pub possible-then : (d : Device) → adoptable d ≡ true → possible (adopted d) ≡ true
-  pub failed-alone : (d : Device) → possibleBefore d ≡ true → (possible d ≡ false) ↔ (d .transfer .phase ≡ Failed)
+  pub failed-alone : (d : Device) → possibleBefore d ≡ true → (possibleParts d ≡ false) ↔ (d .transfer .phase ≡ Failed)
   pub as-it-is : (d : Device) → possible d ≡ true → adopted d ≡ d
-  pub else-idle : (d : Device) → possible d ≡ false → adopted d ≡ idleAgain d
+  pub byte-renewed : (d : Device) → possible d ≡ false → possibleParts d ≡ true → adopted d ≡ renewed d
+  pub else-idle : (d : Device) → possibleParts d ≡ false → adopted d ≡ renewed (idleAgain d)
   pub contexts-kept : (d : Device) → given (adopted d .transfer) ≡ given (d .transfer)

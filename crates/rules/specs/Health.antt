@@ -1,13 +1,12 @@
 -- Document 02, "T-04 Health readings and function 1". Readings: docs/DECISIONS.md, B14 to B20.
 -- Assumes nothing.
 use Prim.Native.Nat.{ℕ, _+_, _%_, _<_}
-use mathlib.Core.{Path._≡_, Logic._↔_, Bool.{Bool, true, _&&_}, List.{List, [], _∷_, _++_}}
+use mathlib.Core.{Path._≡_, Logic._↔_, Bool.{Bool, true, _&&_}, List.{List, _++_}}
 use lib.IntN.{ℤ, pos, negℤ}
 use lib.Signed.{_<ℤ_}
 use Rattle.rules.specs.Tests.{if_then_else_, _≤?_, _<?_}
 use Rattle.rules.specs.Bytes.{le, zeros, bit, on}
-use Rattle.rules.specs.Refusals.{Check, _gives_}
-use Rattle.rules.specs.declared.{Refusal.the-variants.R, Thresholds.Thresholds, Reading.Reading}
+use Rattle.rules.specs.declared.{Thresholds.Thresholds, Reading.Reading}
 
 -- "A health reading (spare, media and controller temperature words)"
 abbrev pub newReading : (spare media controller : ℕ) → Reading
@@ -54,13 +53,13 @@ valid = bit 1 true + bit 3 true + bit 4 true + bit 9 true
 
 -- "Function 1 .. answers 132 bytes by Table 3-2 of source document 001, .. all others zero": after the status its 128 bytes. Flags (0 to 3), reserved (4 to 7),
 -- health status (8), spare (9), percentage used (10), trips (11), media (12, 13) and controller temperature (14, 15); and what the table has besides, from 16 to 127
-abbrev pub healthAnswer : Thresholds → Reading → List ℕ
-healthAnswer h r =
-    le 4 valid ++ zeros 4 ++ zeros 1 ++ le 1 (r .spare) ++ zeros 1 ++ le 1 (trips h r) ++ le 2 (r .media) ++ le 2 (r .controller) ++ zeros 112
+abbrev pub answerWith : (tripsByte : ℕ) → Reading → List ℕ
+answerWith tripsByte r =
+    le 4 valid ++ zeros 4 ++ zeros 1 ++ le 1 (r .spare) ++ zeros 1 ++ le 1 tripsByte ++ le 2 (r .media) ++ le 2 (r .controller) ++ zeros 112
 
--- "spare over 100 in a new reading is R4"
-abbrev pub R4Check : Reading → Check
-R4Check new = 100 <? new .spare gives R 4
+-- with the byte that thresholds and reading give: what T-04 answered, and what every answer must be (T-08)
+abbrev pub healthAnswer : Thresholds → Reading → List ℕ
+healthAnswer h r = answerWith (trips h r) r
 
 -- The comparison of words is the order of the integers that they measure, and 8000h measures what 0000h does. And each bit of the trips byte is on exactly when
 -- its alarm is enabled and the reading is below, or above, its threshold; no other bit is on.

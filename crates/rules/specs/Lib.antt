@@ -79,3 +79,4 @@ pub mod Fault
 pub mod Adopt
 pub mod Reserved
 pub mod Compare
+pub mod TripsKept

@@ -5,15 +5,15 @@
 use Prim.Native.Nat.{ℕ}
 use mathlib.Core.List.{List, [], _∷_, _++_}
 use Rattle.rules.specs.Bytes.{le}
-use Rattle.rules.specs.With.{_with-transfer_, _with-thresholds_, _with-security_, _with-reading_}
-use Rattle.rules.specs.Record.{Module, _with-device_, _with-area_}
-use Rattle.rules.specs.Refusals.{Check, verdict, R1Check, eventChecks, statusBytes, statusLength, statusAnswer, answerAfter, moduleLeft}
+use Rattle.rules.specs.With.{_with-transfer_, _with-thresholds_, _with-security_, _with-reading_, _with-trips_}
+use Rattle.rules.specs.Record.{Module, _with-device_, _with-area_, renewed}
+use Rattle.rules.specs.Refusals.{Check, verdict, R1Check, R4Check, eventChecks, statusBytes, statusLength, statusAnswer, answerAfter, moduleLeft}
 use Rattle.rules.specs.Table.{rowOf, servedCheck, lengthCheck, mask}
-use Rattle.rules.specs.Thresholds.{ThresholdCall, GetThreshold, setThresholdOf, thresholdChecks, thresholdAnswer, thresholdChange}
-use Rattle.rules.specs.Health.{healthAnswer, R4Check}
+use Rattle.rules.specs.Thresholds.{ThresholdCall, GetThreshold, SetThreshold, setThresholdOf, thresholdChecks, thresholdAnswer, thresholdChange}
+use Rattle.rules.specs.Health.{trips, answerWith}
 use Rattle.rules.specs.Transfer.{TransferCall, GetFwInfo, Start, sendOf, finishOf, queryOf, transferChecks, transferAnswer, transferChange, transferArea, tickChange, transferPower}
 use Rattle.rules.specs.Security.{SecurityCall, GetSecurityState, setPassphraseOf, Disable, Unlock, Freeze, securityChecks, securityAnswer, securityChange, securityPower}
-use Rattle.rules.specs.declared.{Refusal.the-variants.{R, Status}, Verdict.Verdict, Verdict.the-variants.{Accepted, Refused}, Reply.Reply, Function.Function, Reading.Reading}
+use Rattle.rules.specs.declared.{Refusal.the-variants.{R, Status}, Verdict.Verdict, Verdict.the-variants.{Accepted, Refused}, Reply.Reply, Function.Function, Thresholds.Thresholds, Reading.Reading}
 use Rattle.rules.specs.declared.Function.the-variants as Function′
 
 -- a call, decoded: function 0 with its revision; function 1, which carries nothing; or a call on one part of the record; an index that the table lacks, to which status 1 comes first
@@ -58,20 +58,28 @@ checks m (OnSecurity asked) = securityChecks (m .device .security) asked
 checks m OnNothing = []
 
 -- the bytes of an accepted call's answer: "a 2-byte status and a 2-byte extended number .., but for function 0". An index that the table lacks is never
--- accepted, so that its line is never used.
+-- accepted, so that its line is never used. Document 02, T-08: "Store the byte in the device record and answer from it."
 abbrev pub acceptedAnswer : Module → Call → List ℕ
 acceptedAnswer m (OnMask revision) = le 4 (mask revision)
-acceptedAnswer m OnHealth = statusBytes 0 0 ++ healthAnswer (m .device .thresholds) (m .device .reading)
+acceptedAnswer m OnHealth = statusBytes 0 0 ++ answerWith (m .device .trips) (m .device .reading)
 acceptedAnswer m (OnThresholds asked) = statusBytes 0 0 ++ thresholdAnswer (m .device .thresholds) asked
 acceptedAnswer m (OnTransfer asked) = statusBytes 0 0 ++ transferAnswer (m .device .transfer) asked
 acceptedAnswer m (OnSecurity asked) = statusBytes 0 0 ++ securityAnswer (m .device .security) asked
 acceptedAnswer m OnNothing = statusBytes 0 0
 
+-- the trips byte after a call on the thresholds: a Set renews it, by the thresholds that it stores
+abbrev pub tripsAfter : Thresholds → Reading → (was : ℕ) → ThresholdCall → ℕ
+tripsAfter h r was GetThreshold = was
+tripsAfter h r was (SetThreshold enable spare media controller) = trips (thresholdChange h (SetThreshold enable spare media controller)) r
+
 -- the module after an accepted call: each works on its part of the record, and a transfer's call on the area too
 abbrev pub change : Module → Call → Module
 change m (OnMask revision) = m
 change m OnHealth = m
-change m (OnThresholds asked) = m with-device (m .device with-thresholds (thresholdChange (m .device .thresholds) asked))
+change m (OnThresholds asked) =
+    m with-device
+    (m .device with-thresholds (thresholdChange (m .device .thresholds) asked)
+    with-trips (tripsAfter (m .device .thresholds) (m .device .reading) (m .device .trips) asked))
 change m (OnTransfer asked) =
     m with-device (m .device with-transfer (transferChange (m .device .transfer) asked)) with-area (transferArea asked (m .area))
 change m (OnSecurity asked) = m with-device (m .device with-security (securityChange (m .device .security) asked))
@@ -138,9 +146,9 @@ powerResult m = happened (verdict (eventChecks m)) (powered m) m
 abbrev pub readingChecks : Module → Reading → List Check
 readingChecks m new = eventChecks m ++ (R4Check new ∷ [])
 
--- the module after an accepted reading: "the device record keeps the last one."
+-- the module after an accepted reading: "the device record keeps the last one." The trips byte is renewed.
 abbrev pub kept : Module → Reading → Module
-kept m new = m with-device (m .device with-reading new)
+kept m new = m with-device (renewed (m .device with-reading new))
 
 -- A health reading.
 unfoldable pub readingResult : Module → Reading → Result

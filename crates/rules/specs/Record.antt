@@ -6,6 +6,8 @@ use mathlib.Core.{Bool.{Bool, false, not, _&&_}, List.List}
 use Rattle.rules.specs.Tests.{_≤?_, _<?_, _=?_, _implies_, _unless_}
 use Rattle.rules.specs.Bytes.{zeros, zeros?}
 use Rattle.rules.specs.Numbers.{areaSize, verification, attemptLimit}
+use Rattle.rules.specs.With.{_with-trips_}
+use Rattle.rules.specs.Health.{trips}
 use Rattle.rules.specs.declared.{Phase.Phase, Phase.the-variants.{Idle, Receiving, Verifying, Staged, Failed}, Transfer.Transfer, Thresholds.Thresholds}
 use Rattle.rules.specs.declared.{Security.Security, Reading.Reading, Device.Device}
 
@@ -21,7 +23,8 @@ infix 40 _is_
 abbrev pub _is_ : Phase → Phase → Bool
 p is q = phaseNumber p =? phaseNumber q
 
--- "Fresh: Idle, running version 1, everything else zero or off." Document 02, T-04: "Fresh readings are zero".
+-- "Fresh: Idle, running version 1, everything else zero or off." Document 02, T-04: "Fresh readings are zero"; no alarm is enabled,
+-- and so the trips byte is zero too.
 abbrev pub fresh : Device
 fresh =
     record {
@@ -29,6 +32,7 @@ fresh =
       thresholds = record { enable = 0; spare = 0; media = 0; controller = 0 };
       security = record { enabled = false; locked = false; frozen = false; attempts = 0; passphrase = zeros 32 };
       reading = record { spare = 0; media = 0; controller = 0 };
+      trips = 0;
     }
 
 -- "contexts given out so far": how many numbers have been given, which is the last one given too, for they begin at 1
@@ -78,9 +82,21 @@ possibleThresholds h = (h .enable <? 8) && (h .spare ≤? 100)
 unfoldable pub possibleReading : Reading → Bool
 possibleReading r = r .spare ≤? 100
 
-unfoldable pub possible : Device → Bool
-possible d =
+-- the four parts, each possible by itself: all that was asked before T-08
+unfoldable pub possibleParts : Device → Bool
+possibleParts d =
     possibleTransfer (d .transfer) && possibleSecurity (d .security) && possibleThresholds (d .thresholds) && possibleReading (d .reading)
+
+-- document 02, T-08: "R3 now covers a record whose stored byte disagrees with its reading and thresholds."
+unfoldable pub possibleTrips : Device → Bool
+possibleTrips d = d .trips =? trips (d .thresholds) (d .reading)
+
+unfoldable pub possible : Device → Bool
+possible d = possibleParts d && possibleTrips d
+
+-- the record with the byte that its thresholds and its reading give: "Every operation keeps it true."
+abbrev pub renewed : Device → Device
+renewed d = d with-trips (trips (d .thresholds) (d .reading))
 
 -- A module's whole state, "device record, staging area": what an event finds, and what it leaves.
 pub record Module : Type 0 where

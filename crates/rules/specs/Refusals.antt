@@ -8,7 +8,7 @@ use Rattle.rules.specs.Bytes.{le, zeros, splice}
 use Rattle.rules.specs.Numbers.{areaSize, answerRoom}
 use Rattle.rules.specs.With.{_with-attempts_, _with-security_}
 use Rattle.rules.specs.Record.{possible, Module, _with-device_}
-use Rattle.rules.specs.declared.{Refusal.Refusal, Refusal.the-variants.R, Verdict.Verdict, Verdict.the-variants.{Accepted, Refused}, Device.Device}
+use Rattle.rules.specs.declared.{Refusal.Refusal, Refusal.the-variants.R, Verdict.Verdict, Verdict.the-variants.{Accepted, Refused}, Device.Device, Reading.Reading}
 
 -- a check: where the test is true, this refusal is given
 infix 20 _gives_
@@ -31,6 +31,10 @@ R2Check area = not (length area =? areaSize) gives R 2
 -- "R3 | record not possible"
 abbrev pub R3Check : Device → Check
 R3Check d = not (possible d) gives R 3
+
+-- document 02, T-04: "spare over 100 in a new reading is R4"
+abbrev pub R4Check : Reading → Check
+R4Check new = 100 <? new .spare gives R 4
 
 -- Every event makes these two checks. "Ticks and power cycles can give R2 and R3 only."
 abbrev pub eventChecks : Module → List Check

@@ -7,7 +7,7 @@ use Rattle.rules.specs.declared.{Phase.Phase, Transfer.Transfer, Thresho
 
 infixl 10 _with-phase_ _with-contexts_ _with-received_ _with-ticks_ _with-running_ _with-staged_ _with-reason_ _with-faulty_
 infixl 10 _with-enabled_ _with-locked_ _with-frozen_ _with-attempts_ _with-passphrase_
-infixl 10 _with-transfer_ _with-thresholds_ _with-security_ _with-reading_
+infixl 10 _with-transfer_ _with-thresholds_ _with-security_ _with-reading_ _with-trips_
 abbrev pub _with-phase_ : Transfer → Phase → Transfer
 t with-phase x = record { phase = x; contexts = t .contexts; received = t .received; ticks = t .ticks; running = t .running; staged = t .staged; reason = t .reason; faulty = t .faulty }
 
@@ -48,13 +48,16 @@ abbrev pub _with-passphrase_ : Security → List ℕ → Security
 s with-passphrase x = record { enabled = s .enabled; locked = s .locked; frozen = s .frozen; attempts = s .attempts; passphrase = x }
 
 abbrev pub _with-transfer_ : Device → Transfer → Device
-d with-transfer x = record { transfer = x; thresholds = d .thresholds; security = d .security; reading = d .reading }
+d with-transfer x = record { transfer = x; thresholds = d .thresholds; security = d .security; reading = d .reading; trips = d .trips }
 
 abbrev pub _with-thresholds_ : Device → Thresholds → Device
-d with-thresholds x = record { transfer = d .transfer; thresholds = x; security = d .security; reading = d .reading }
+d with-thresholds x = record { transfer = d .transfer; thresholds = x; security = d .security; reading = d .reading; trips = d .trips }
 
 abbrev pub _with-security_ : Device → Security → Device
-d with-security x = record { transfer = d .transfer; thresholds = d .thresholds; security = x; reading = d .reading }
+d with-security x = record { transfer = d .transfer; thresholds = d .thresholds; security = x; reading = d .reading; trips = d .trips }
 
 abbrev pub _with-reading_ : Device → Reading → Device
-d with-reading x = record { transfer = d .transfer; thresholds = d .thresholds; security = d .security; reading = x }
+d with-reading x = record { transfer = d .transfer; thresholds = d .thresholds; security = d .security; reading = x; trips = d .trips }
+
+abbrev pub _with-trips_ : Device → ℕ → Device
+d with-trips x = record { transfer = d .transfer; thresholds = d .thresholds; security = d .security; reading = d .reading; trips = x }

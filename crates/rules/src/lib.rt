@@ -88,12 +88,13 @@ pub struct Reading {
     pub controller: u16,
 }
 
-// The device record.
+// The device record. The trips byte is kept beside the thresholds and the reading that it follows from (document 02, T-08).
 pub struct Device {
     pub transfer: Transfer,
     pub thresholds: Thresholds,
     pub security: Security,
     pub reading: Reading,
+    pub trips: u8,
 }
 
 // What a refusal gives: an R number, which writes nothing, or a status with its extended number.

@@ -1,13 +1,15 @@
 -- T-03 written out, from its theorems; its examples, by computation over the definitions.
 -- Assumes nothing.
 use Prim.Native.Nat.{ℕ, _/_, _<_}
-use mathlib.Core.{Path.{_≡_, refl, ap, subst, sym}, Logic.{_↔_, _⊎_, inl, inr}, Bool.{Bool, true, false, _||_, false≢true}, List.{List}}
+use mathlib.Core.{Path.{_≡_, refl, ap, subst, sym}, Logic.{_↔_, _⊎_, inl, inr}, Bool.{Bool, true, false, _&&_, _||_, false≢true}, List.{List}}
 use native.Mathlib.Omega.{arith}
 use lib.ListN.{length}
-use Rattle.rules.{specs.Bytes.zeros?, specs.Record.{possible, possibleTransfer, possibleSecurity, possibleThresholds, possibleReading}, specs.Adopt.{possibleBefore, adoptable, adopted, idleAgain}}
+use Rattle.rules.{specs.Bytes.zeros?, specs.Record.{possible, possibleTransfer, possibleSecurity, possibleThresholds, possibleReading, possibleParts, possibleTrips, renewed}, specs.Adopt.{possibleBefore, keptBefore, adoptable, adopted, idleAgain}}
 use Rattle.rules.specs.Fault.{reasonNumber, _of-record_, firstFault, passes, Named, First}
 use Rattle.rules.specs.declared.{Reason.Reason, Reason.the-variants.{Size, Number, Count, Version, Sum}, Device.Device}
-use Rattle.rules.{proofs.page.Faults.{request-T03, good-at}, proofs.page.Adopting.adopting}
+use borrow.Author.Tests.{eq-eqb, eqb-true}
+use Rattle.rules.{specs.Tests._=?_, proofs.page.Choice.and-true, proofs.page.Faults.{request-T03, good-at}, proofs.page.Adopting.adopting}
+use Rattle.rules.specs.Health.{above, trips}
 use Rattle.rules_demands.specs.Faults.{sized, numbered, counted, versioned, summed, Reached, FaultsWrittenOut, IdleWithAllElse, AdoptingWrittenOut, FaultsHeld}
 
 module _ (bytes : List ℕ) (i : ℕ) where
@@ -140,7 +142,17 @@ either true b e = refl
 either false b (inl e) = absurd (false≢true e)
 either false b (inr e) = e
 
-idle : (d taken : Device) → taken ≡ idleAgain d → IdleWithAllElse d taken
+one-of-them : (d : Device) → (possible d ≡ true) ⊎ ((d .trips ≡ 0) × ((possibleParts d ≡ true) ⊎ (possibleBefore d ≡ true))) → adoptable d ≡ true
+unfolding keptBefore
+one-of-them d (inl e) = either (possible d) (keptBefore d) (inl e)
+one-of-them d (inr h) =
+    either (possible d) (d .trips =? 0 && (possibleParts d || possibleBefore d)) (inr (rw (eq-eqb (d .trips) 0 (h .0)) (either (possibleParts d) (possibleBefore d) (h .1))))
+
+no-byte : (d : Device) → adoptable d ≡ true → possible d ≡ false → d .trips ≡ 0
+unfolding keptBefore
+no-byte d e p = eqb-true (d .trips) 0 (and-true (d .trips =? 0) (possibleParts d || possibleBefore d) (rw p at e) .0)
+
+idle : (d taken : Device) → taken ≡ renewed (idleAgain d) → IdleWithAllElse d taken
 idle d taken e =
     subst (IdleWithAllElse d) (sym e)
     (record {
@@ -160,13 +172,15 @@ idle d taken e =
 pub adopting-written : AdoptingWrittenOut
 adopting-written =
     record {
-      possible-then = λ d e. adopting .possible-then d (either (possible d) (possibleBefore d) e);
+      possible-then = λ d e. adopting .possible-then d (one-of-them d e);
       failed-alone = adopting .failed-alone;
       stays = adopting .as-it-is;
+      byte-alone = adopting .byte-renewed;
       becomes-idle = λ d e. idle d (adopted d) (adopting .else-idle d e);
+      none-else = no-byte;
       as-many-given = adopting .contexts-kept;
     }
 
 pub faults-held : FaultsHeld
-unfolding zeros? possible possibleTransfer possibleSecurity possibleThresholds possibleReading possibleBefore
-faults-held = record { numbers = refl; adopted-ones = refl; no-others = refl; none-with-reading = refl }
+unfolding zeros? possible possibleTransfer possibleSecurity possibleThresholds possibleReading possibleParts possibleTrips possibleBefore keptBefore above trips
+faults-held = record { numbers = refl; adopted-ones = refl; no-others = refl; adopted-bytes = refl; byte-given = refl; none-with-reading = refl }

@@ -5,9 +5,9 @@ use mathlib.Core.{Path.{_≡_, refl}, List.{List, [], _∷_, _++_, map}}
 use native.Mathlib.Omega.{arith}
 use lib.ListN.{length, take, drop, replicate, length-replicate}
 use Rattle.rules.{specs.Bytes.{le, zeros, zeros?}, specs.Numbers.{areaSize, answerRoom}}
-use Rattle.rules.{specs.Record.{phaseNumber, possible, possibleTransfer, possibleSecurity, possibleThresholds, possibleReading, Module}, specs.Refusals.verdict}
+use Rattle.rules.{specs.Record.{phaseNumber, possible, possibleTransfer, possibleSecurity, possibleThresholds, possibleReading, possibleParts, possibleTrips, Module}, specs.Refusals.verdict}
 use Rattle.rules.{specs.Table.{rowOf, fits?}, specs.Image.sumOfWords, specs.Fault.{recordFault, recordsFault, firstFault, imageOf}}
-use Rattle.rules.{specs.Module.{Result, Event, call, tick, power, reading, step, callResult, tickResult, powerResult, readingResult}, specs.Health.newReading, specs.Replay.{printedStatus, printedExt}}
+use Rattle.rules.{specs.Module.{Result, Event, call, tick, power, reading, step, callResult, tickResult, powerResult, readingResult}, specs.Health.{newReading, above, trips}, specs.Replay.{printedStatus, printedExt}}
 use Rattle.rules.{specs.History.historyOf, specs.Transfers.{machine, Exchange}, specs.Moves.rearranged, specs.Hosts.Honest}
 use Rattle.rules.{specs.Demand3.{freshWith, struck, EachFromOneHost, Demand3Of}, proofs.histories.Demand3.demand-3}
 use Rattle.rules_demands.proofs.Checked.{checked}
@@ -110,7 +110,7 @@ pub comes-to : told new (same-hour ++ restart)
     -- the laptop's Get FW Info
     ∷ (0 ∷ 0 ∷ 0 ∷ 0 ∷ 2 ∷ [])
     ∷ []
-unfolding zeros? possible possibleTransfer possibleSecurity possibleThresholds possibleReading verdict rowOf fits? sumOfWords recordFault recordsFault firstFault imageOf callResult tickResult powerResult
+unfolding zeros? possible possibleTransfer possibleSecurity possibleThresholds possibleReading possibleParts possibleTrips verdict rowOf fits? sumOfWords recordFault recordsFault firstFault imageOf callResult tickResult powerResult above trips
 comes-to = refl
 
 -- who called which function, in the order of the rearranged history: the laptop's Get FW Info goes before the recorder's Start
@@ -122,7 +122,7 @@ caller (reading new) = (0, 2)
 
 pub moved : map (λ (x : Exchange). caller (x .event)) (rearranged (struck (historyOf machine new same-hour)))
     ≡ (2, 12) ∷ (1, 13) ∷ (1, 14) ∷ (1, 14) ∷ (1, 15) ∷ (0, 0) ∷ (0, 0) ∷ (0, 0) ∷ (0, 0) ∷ (0, 0) ∷ (0, 0) ∷ (0, 0) ∷ []
-unfolding zeros? possible possibleTransfer possibleSecurity possibleThresholds possibleReading verdict rowOf fits? sumOfWords recordFault recordsFault firstFault imageOf callResult tickResult powerResult
+unfolding zeros? possible possibleTransfer possibleSecurity possibleThresholds possibleReading possibleParts possibleTrips verdict rowOf fits? sumOfWords recordFault recordsFault firstFault imageOf callResult tickResult powerResult above trips
 moved = refl
 
 -- Document 02, T-04: "Demand 3 lets readings move like other events": one that comes between goes before the Start, and one that is refused is struck out
@@ -138,12 +138,12 @@ with-readings =
 
 pub moved-reading : map (λ (x : Exchange). caller (x .event)) (rearranged (struck (historyOf machine new with-readings)))
     ≡ (0, 2) ∷ (1, 13) ∷ (1, 14) ∷ (1, 14) ∷ (1, 15) ∷ []
-unfolding zeros? possible possibleTransfer possibleSecurity possibleThresholds possibleReading verdict rowOf fits? callResult readingResult
+unfolding zeros? possible possibleTransfer possibleSecurity possibleThresholds possibleReading possibleParts possibleTrips verdict rowOf fits? callResult readingResult above trips
 moved-reading = refl
 
 -- Both hosts are honest: the recorder uses the context that its Start answered, the laptop uses none.
 pub honest : Honest (historyOf machine new (same-hour ++ restart))
-unfolding zeros? possible possibleTransfer possibleSecurity possibleThresholds possibleReading verdict rowOf fits? sumOfWords recordFault recordsFault firstFault imageOf callResult tickResult powerResult
+unfolding zeros? possible possibleTransfer possibleSecurity possibleThresholds possibleReading possibleParts possibleTrips verdict rowOf fits? sumOfWords recordFault recordsFault firstFault imageOf callResult tickResult powerResult above trips
 honest = checked (historyOf machine new (same-hour ++ restart)) .0 refl
 
 -- so all of demand 3 holds of it
@@ -155,5 +155,5 @@ abbrev not-honest : List Event
 not-honest = start recorder ∷ send laptop 1 0 (take 64 image) ∷ []
 
 pub needed : EachFromOneHost (struck (historyOf machine new not-honest)) → ⊥
-unfolding zeros? possible possibleTransfer possibleSecurity possibleThresholds possibleReading verdict rowOf fits? callResult
+unfolding zeros? possible possibleTransfer possibleSecurity possibleThresholds possibleReading possibleParts possibleTrips verdict rowOf fits? callResult above trips
 needed t = let same : laptop ≡ recorder = t .1 .0 in omega arith

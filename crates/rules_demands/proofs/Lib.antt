@@ -15,5 +15,6 @@ pub mod Faults
 pub mod Health
 pub mod Reserved
 pub mod Comparisons
+pub mod Trips
 -- That demand 3 is not empty: the incident at sea, computed.
 pub mod Incident

@@ -6,10 +6,11 @@ use mathlib.Core.{Path._≡_, Logic.{_⊎_, _↔_}, Bool.{true, not, _||_}, List
 use lib.ListN.{length, take, drop}
 use Rattle.rules.specs.Tests.{if_then_else_, _=?_, _<?_}
 use Rattle.rules.specs.Bytes.{le, zeros}
-use Rattle.rules.specs.With.{_with-attempts_, _with-security_, _with-reading_}
+use Rattle.rules.specs.With.{_with-attempts_, _with-security_, _with-reading_, _with-trips_}
 use Rattle.rules.specs.Record.{fresh, possible, Module, moduleOf}
 use Rattle.rules.specs.Refusals.{_gives_, verdict}
 use Rattle.rules.specs.Table.{rowOf, servedCheck, lengthCheck}
+use Rattle.rules.specs.Health.{trips}
 use Rattle.rules.specs.Module.{Result, reply, callIn, checks, callResult, readingResult, Event, call, tick, power, reading, step}
 use Rattle.rules.specs.declared.{Refusal.Refusal, Refusal.the-variants.{R, Status}, Verdict.the-variants.{Accepted, Refused}, Reading.Reading}
 
@@ -109,14 +110,15 @@ ReadsOver100 tick = ⊥
 ReadsOver100 power = ⊥
 ReadsOver100 (reading new) = 100 < new .spare
 
--- What a reading comes to: the first row that is true refuses it, and nothing changes; or it is kept, and nothing else changes.
+-- What a reading comes to: the first row that is true refuses it, and nothing changes; or it is kept, with the trips byte that it gives, and nothing
+-- else changes.
 pub record ReadingWrittenOut (m : Module) (new : Reading) : Type 0 where
   pub judged-so : readingResult m new .reply .verdict
       ≡ verdict ((not (length (m .area) =? 16384) gives R 2) ∷ (not (possible (m .device)) gives R 3) ∷ (100 <? new .spare gives R 4) ∷ [])
   pub nothing-changed : (refusal : Refusal) → readingResult m new .reply .verdict ≡ Refused refusal
       → readingResult m new ≡ record { reply = reply (Refused refusal) 0; after = m; answer = [] }
   pub kept-it : readingResult m new .reply .verdict ≡ Accepted
-      → readingResult m new ≡ record { reply = reply Accepted 0; after = moduleOf (m .device with-reading new) (m .area); answer = [] }
+      → readingResult m new ≡ record { reply = reply Accepted 0; after = moduleOf (m .device with-reading new with-trips (trips (m .device .thresholds) new)) (m .area); answer = [] }
 
 -- some reading is refused by this number
 abbrev pub IsGivenByReading : Refusal → Type 0

@@ -1,11 +1,11 @@
--- Document 02, T-03, written out by the bytes of an image, and what becomes of a record that was kept before, field by field; and by examples.
+-- Document 02, T-03, written out by the bytes of an image, and what becomes of a record that was kept before it or before T-08, field by field; and by examples.
 -- Assumes nothing.
 use Prim.Native.Nat.{ℕ, _*_, _/_, _%_, _^_, _<_}
 use mathlib.Core.{Path._≡_, Logic.{_↔_, _⊎_}, Bool.{Bool, true, false, not, _&&_}, List.{List, [], _∷_, map}}
 use lib.ListN.{length, take, drop}
 use Rattle.rules.specs.Tests.{if_then_else_, _≤?_, _=?_}
-use Rattle.rules.specs.{Bytes.{numberAt}, Image.{sumOfWords, goodRecord, goodImage}, Record.{possible, fresh}, Health.{newReading}, Adopt.{possibleBefore, adoptable, adopted}}
-use Rattle.rules.specs.With.{_with-transfer_, _with-reading_, _with-phase_, _with-contexts_, _with-received_, _with-reason_}
+use Rattle.rules.specs.{Bytes.{numberAt}, Image.{sumOfWords, goodRecord, goodImage}, Record.{possible, possibleParts, fresh}, Health.{newReading, trips}, Adopt.{possibleBefore, adoptable, adopted}}
+use Rattle.rules.specs.With.{_with-transfer_, _with-thresholds_, _with-reading_, _with-trips_, _with-phase_, _with-contexts_, _with-received_, _with-reason_}
 use Rattle.rules.specs.Fault.{reasonNumber, none, _of-record_, firstFault, imageOf}
 use Rattle.rules.specs.declared.{Reason.Reason, Reason.the-variants.{Size, Number, Count, Version, Sum}, Image.the-variants.{Good, Bad}}
 use Rattle.rules.specs.declared.{Phase.Phase, Phase.the-variants.{Idle, Failed}, Device.Device}
@@ -50,7 +50,7 @@ pub record FaultsWrittenOut : Type 0 where
   pub told-good : (bytes : List ℕ) (version : ℕ) → (imageOf bytes ≡ Good version) ↔ ((goodImage bytes ≡ true) × (version ≡ numberAt 8 4 bytes))
   pub told-bad : (bytes : List ℕ) (reason : Reason) (i : ℕ) → (imageOf bytes ≡ Bad reason i) ↔ (firstFault bytes ≡ (reason of-record i))
 
--- Idle with received 0, and nothing else changes
+-- Idle with received 0, and nothing else changes but the trips byte
 pub record IdleWithAllElse (d taken : Device) : Type 0 where
   pub idle : taken .transfer .phase ≡ Idle
   pub received-0 : taken .transfer .received ≡ 0
@@ -65,10 +65,13 @@ pub record IdleWithAllElse (d taken : Device) : Type 0 where
   pub same-reading : taken .reading ≡ d .reading
 
 pub record AdoptingWrittenOut : Type 0 where
-  pub possible-then : (d : Device) → (possible d ≡ true) ⊎ (possibleBefore d ≡ true) → possible (adopted d) ≡ true
-  pub failed-alone : (d : Device) → possibleBefore d ≡ true → (possible d ≡ false) ↔ (d .transfer .phase ≡ Failed)
+  -- one that is possible; one that T-04's library kept; one of the library before T-03
+  pub possible-then : (d : Device) → (possible d ≡ true) ⊎ ((d .trips ≡ 0) × ((possibleParts d ≡ true) ⊎ (possibleBefore d ≡ true))) → possible (adopted d) ≡ true
+  pub failed-alone : (d : Device) → possibleBefore d ≡ true → (possibleParts d ≡ false) ↔ (d .transfer .phase ≡ Failed)
   pub stays : (d : Device) → possible d ≡ true → adopted d ≡ d
-  pub becomes-idle : (d : Device) → possible d ≡ false → IdleWithAllElse d (adopted d)
+  pub byte-alone : (d : Device) → possible d ≡ false → possibleParts d ≡ true → adopted d ≡ d with-trips (trips (d .thresholds) (d .reading))
+  pub becomes-idle : (d : Device) → possibleParts d ≡ false → IdleWithAllElse d (adopted d)
+  pub none-else : (d : Device) → adoptable d ≡ true → (possible d ≡ false) → d .trips ≡ 0
   pub as-many-given : (d : Device) → adopted d .transfer .contexts ≡ d .transfer .contexts
 
 -- a record in this phase with so many contexts given out, with this reason: as it was kept, and as it is taken over
@@ -76,9 +79,16 @@ abbrev pub kept : Phase → (contexts received reason : ℕ) → Device
 kept phase contexts received reason =
     fresh with-transfer (fresh .transfer with-phase phase with-contexts contexts with-received received with-reason reason)
 
+-- fresh but for thresholds whose first alarm the reading of zeros trips, with this byte
+abbrev pub tripping : (byte : ℕ) → Device
+tripping byte = fresh with-thresholds (record { enable = 1; spare = 20; media = 0; controller = 0 }) with-trips byte
+
 pub record FaultsHeld : Type 0 where
   pub numbers : map reasonNumber (Size ∷ Number ∷ Count ∷ Version ∷ Sum ∷ []) ≡ 1 ∷ 2 ∷ 3 ∷ 4 ∷ 5 ∷ []
   pub adopted-ones : map adopted (kept Failed 7 128 0 ∷ kept Failed 7 128 5 ∷ kept Idle 7 0 0 ∷ []) ≡ kept Idle 7 0 0 ∷ kept Failed 7 128 5 ∷ kept Idle 7 0 0 ∷ []
   pub no-others : map adoptable (kept Failed 0 128 0 ∷ kept Failed 7 128 6 ∷ kept Idle 7 0 1 ∷ kept Idle 7 1 0 ∷ []) ≡ false ∷ false ∷ false ∷ false ∷ []
   -- nor one in Failed without a reason that has a reading, which no library before kept
+  -- one with an alarm that its reading trips, from before the byte was kept; with any other byte it is none of those
+  pub adopted-bytes : map (λ byte. adoptable (tripping byte)) (0 ∷ 1 ∷ 2 ∷ 3 ∷ []) ≡ true ∷ true ∷ false ∷ false ∷ []
+  pub byte-given : adopted (tripping 0) ≡ tripping 1
   pub none-with-reading : map (λ new. adoptable (kept Failed 7 128 0 with-reading new)) (newReading 1 0 0 ∷ newReading 0 1 0 ∷ newReading 0 0 1 ∷ []) ≡ false ∷ false ∷ false ∷ []

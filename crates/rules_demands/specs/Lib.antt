@@ -17,3 +17,4 @@ pub mod Faults
 pub mod Health
 pub mod Reserved
 pub mod Comparisons
+pub mod Trips

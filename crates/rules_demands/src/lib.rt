@@ -10,6 +10,7 @@ ghost use Rattle.rules.specs.Adopt.{Adopting};
 ghost use Rattle.rules.specs.Health.{RequestT04};
 ghost use Rattle.rules.specs.Reserved.{RequestT05};
 ghost use Rattle.rules.specs.Compare.{RequestT06};
+ghost use Rattle.rules.specs.TripsKept.{RequestT08};
 ghost use Rattle.rules_demands.specs.Calls.{Demand1WrittenOut};
 ghost use Rattle.rules_demands.specs.Histories.{Demand3WrittenOut};
 ghost use Rattle.rules_demands.specs.Beside.{BesideWrittenOut};
@@ -20,6 +21,7 @@ ghost use Rattle.rules_demands.specs.Faults.{FaultsWrittenOut, AdoptingW
 ghost use Rattle.rules_demands.specs.Health.{HealthWrittenOut, HealthHeld};
 ghost use Rattle.rules_demands.specs.Reserved.{ReservedMeansZero, ReservedHeld};
 ghost use Rattle.rules_demands.specs.Comparisons.{ComparisonsWrittenOut, ComparisonsHeld};
+ghost use Rattle.rules_demands.specs.Trips.{TripsWrittenOut, TripsHeld};
 
 // Any call gets an answer, and a refusal leaves what it must.
 pub fn demand_1()
@@ -88,4 +90,11 @@ pub fn request_t06()
     ensures { λ r. ⌜ RequestT06 ⌝ }
     ensures { λ r. ⌜ ComparisonsWrittenOut ⌝ }
     ensures { λ r. ⌜ ComparisonsHeld ⌝ }
+{}
+
+// Document 02, T-08: what a possible record's trips byte is, that every event keeps it true, and that function 1 answers as before; the same written out; and examples.
+pub fn request_t08()
+    ensures { λ r. ⌜ RequestT08 ⌝ }
+    ensures { λ r. ⌜ TripsWrittenOut ⌝ }
+    ensures { λ r. ⌜ TripsHeld ⌝ }
 {}

@@ -6,8 +6,8 @@ use mathlib.Core.{Path.{_≡_, refl, sym, _∙_, ap}, Logic.{inl, inr}, Bool.tru
 use lib.ListN.{length, replicate}
 use Rattle.rules.specs.{Bytes.{le, zeros, zeros?, same?}, Numbers.{areaSize, lastContext}}
 use Rattle.rules.specs.With.{_with-phase_, _with-contexts_, _with-reason_, _with-enabled_, _with-frozen_, _with-transfer_, _with-security_}
-use Rattle.rules.specs.{Record.{fresh, possible, possibleTransfer, possibleSecurity, possibleThresholds, possibleReading, Module, moduleOf}, Refusals.verdict, Table.{rowOf, fits?}}
-use Rattle.rules.specs.{Module.{callResult, readingResult}, Health.newReading, Demand1.{refusalNumbers, Among, GivenBySome, readingNumbers, GivenByReading}, declared.Phase.Phase}
+use Rattle.rules.specs.{Record.{fresh, possible, possibleTransfer, possibleSecurity, possibleThresholds, possibleReading, possibleParts, possibleTrips, Module, moduleOf}, Refusals.verdict, Table.{rowOf, fits?}}
+use Rattle.rules.specs.{Module.{callResult, readingResult}, Health.{newReading, above, trips}, Demand1.{refusalNumbers, Among, GivenBySome, readingNumbers, GivenByReading}, declared.Phase.Phase}
 use Rattle.rules.specs.{declared.Phase.the-variants.{Idle, Receiving, Staged, Failed}, declared.Refusal.Refusal, declared.Verdict.Verdict}
 use Rattle.rules.specs.{declared.Verdict.the-variants.{Accepted, Refused}, declared.Security.Security}
 
@@ -52,7 +52,7 @@ witnesses =
     ∷ []
 
 claim : map verdictOn witnesses ≡ map Refused refusalNumbers
-unfolding zeros? same? possible possibleTransfer possibleSecurity possibleThresholds possibleReading verdict rowOf fits? callResult witnesses
+unfolding zeros? same? possible possibleTransfer possibleSecurity possibleThresholds possibleReading possibleParts possibleTrips verdict rowOf fits? callResult witnesses above trips
 claim = refl
 
 -- the first of a list, and the others
@@ -76,7 +76,7 @@ each-given refusal a = each-of refusalNumbers witnesses claim refusal a
 
 -- The same of a reading's numbers, by a spare of 101 each time: R2 and R3 come before R4, and R2 before R3.
 pub each-by-reading : (refusal : Refusal) → Among readingNumbers refusal → GivenByReading refusal
-unfolding zeros? possible possibleTransfer possibleSecurity possibleThresholds possibleReading verdict readingResult
+unfolding zeros? possible possibleTransfer possibleSecurity possibleThresholds possibleReading possibleParts possibleTrips verdict readingResult above trips
 each-by-reading refusal (inl same) = record { found = moduleOf (inPhase Receiving 0 .device) []; new = newReading 101 0 0; refused = ap Refused (sym same) }
 each-by-reading refusal (inr (inl same)) = record { found = inPhase Receiving 0; new = newReading 101 0 0; refused = ap Refused (sym same) }
 each-by-reading refusal (inr (inr (inl same))) = record { found = inPhase Idle 0; new = newReading 101 0 0; refused = ap Refused (sym same) }

@@ -6,8 +6,8 @@ use native.Mathlib.Omega.{arith}
 use lib.ListN.{length, length-append, length-take, length-drop}
 use borrow.Author.Tests.{ltb-true, ltb-false, leb-true, lt-ltb, le-leb, eqb-true, eqb-false, eq-eqb, not-true, not-false}
 use Rattle.rules.specs.{Tests.{if_then_else_, _=?_, _<?_, _≤?_, _implies_, _unless_}, Bytes.zeros?, Numbers.{areaSize, verification, attemptLimit, lastContext}}
-use Rattle.rules.specs.With.{_with-ticks_, _with-phase_, _with-received_}
-use Rattle.rules.specs.{Record.{_is_, possible, possibleNumbers, possibleFault, possibleTransfer, possibleSecurity, possibleThresholds, possibleReading, Module, current, given}, Refusals.{Check, _gives_, verdict}}
+use Rattle.rules.specs.{With.{_with-ticks_, _with-phase_, _with-received_}, Health.trips}
+use Rattle.rules.specs.{Record.{_is_, possible, possibleParts, possibleNumbers, possibleFault, possibleTransfer, possibleSecurity, possibleThresholds, possibleReading, possibleTrips, Module, current, given}, Refusals.{Check, _gives_, verdict}}
 use Rattle.rules.specs.{Thresholds.{GetThreshold, SetThreshold}, Transfer.{TransferCall, GetFwInfo, Start, Send, Finish, Query}}
 use Rattle.rules.specs.{Security.{SecurityCall, GetSecurityState, SetPassphrase, Disable, Unlock, Freeze, securityChecks, wrong}, declared.Refusal.Refusal}
 use Rattle.rules.specs.{declared.Refusal.the-variants.{R, Status}, declared.Verdict.the-variants.{Accepted, Refused}, declared.Phase.Phase}
@@ -170,6 +170,7 @@ pub record RestOk (r : Rest) : Type 0 where
   pub bits : r .thresholds .enable < 8
   pub spare : r .thresholds .spare ≤ 100
   pub left : r .reading .spare ≤ 100
+  pub true-byte : r .trips ≡ trips (r .thresholds) (r .reading)
 
 -- row by row: a row whose refusal is no wrong passphrase
 peel : (t : Bool) (refusal : Refusal) (rows : List Check) (r : Rest) (x : RestCall) → mild (Refused refusal) ≡ true → RestOk r → (t ≡ false → RestOk (restAfter (verdict rows) r x))
@@ -184,7 +185,7 @@ pass : (t : Bool) (r : Rest) (x : RestCall) → r .security .attempts < attemptL
     → RestOk (restAfter (verdict ((t gives Status 11 0) ∷ [])) r x)
 unfolding verdict
 pass false r x l w f = f refl
-pass true r x l w f = record { locks = w .locks; phrase = w .phrase; tries = omega arith; bits = w .bits; spare = w .spare; left = w .left }
+pass true r x l w f = record { locks = w .locks; phrase = w .phrase; tries = omega arith; bits = w .bits; spare = w .spare; left = w .left; true-byte = w .true-byte }
 
 below-limit : (s : Security) → s .attempts ≤ attemptLimit → (s .frozen || s .attempts =? attemptLimit) ≡ false → s .attempts < attemptLimit
 below-limit s l e = let n = eqb-false (s .attempts) attemptLimit (or-false (s .frozen) (s .attempts =? attemptLimit) e .1) in omega arith
@@ -210,16 +211,16 @@ unfolding zeros?
 lock-next r GetSecurityState w = accept r (Locks GetSecurityState) w
 lock-next r (SetPassphrase given new) w =
     passes (r .security .locked) (r .security .enabled && wrong (r .security) given) r (Locks (SetPassphrase given new)) w
-    (λ b. record { locks = rw b; phrase = refl; tries = omega arith; bits = w .bits; spare = w .spare; left = w .left })
+    (λ b. record { locks = rw b; phrase = refl; tries = omega arith; bits = w .bits; spare = w .spare; left = w .left; true-byte = w .true-byte })
 lock-next r (Disable given) w =
     passes (not (r .security .enabled && not (r .security .locked))) (wrong (r .security) given) r (Locks (Disable given)) w
-    (λ b. record { locks = rw (and-true (r .security .enabled) (not (r .security .locked)) (not-false _ b) .1); phrase = refl; tries = omega arith; bits = w .bits; spare = w .spare; left = w .left })
+    (λ b. record { locks = rw (and-true (r .security .enabled) (not (r .security .locked)) (not-false _ b) .1); phrase = refl; tries = omega arith; bits = w .bits; spare = w .spare; left = w .left; true-byte = w .true-byte })
 lock-next r (Unlock given) w =
     passes (not (r .security .enabled && r .security .locked)) (wrong (r .security) given) r (Locks (Unlock given)) w
-    (λ b. record { locks = refl; phrase = w .phrase; tries = omega arith; bits = w .bits; spare = w .spare; left = w .left })
+    (λ b. record { locks = refl; phrase = w .phrase; tries = omega arith; bits = w .bits; spare = w .spare; left = w .left; true-byte = w .true-byte })
 lock-next r Freeze w =
     peel (r .security .frozen || r .security .attempts =? attemptLimit) (Status 10 0) [] r (Locks Freeze) refl w
-    (λ a. accept r (Locks Freeze) (record { locks = w .locks; phrase = w .phrase; tries = w .tries; bits = w .bits; spare = w .spare; left = w .left }))
+    (λ a. accept r (Locks Freeze) (record { locks = w .locks; phrase = w .phrase; tries = w .tries; bits = w .bits; spare = w .spare; left = w .left; true-byte = w .true-byte }))
 
 call-next : (r : Rest) (x : RestCall) → RestOk r → RestOk (restAfter (verdict (restChecks r x)) r x)
 call-next r (Masks revision) w = accept r (Masks revision) w
@@ -228,7 +229,7 @@ call-next r (Limits GetThreshold) w = accept r (Limits GetThreshold) w
 call-next r (Limits (SetThreshold enable spare media controller)) w =
     peel (7 <? enable) (Status 3 0) ((100 <? spare gives Status 3 0) ∷ []) r (Limits (SetThreshold enable spare media controller)) refl w (λ z.
     peel (100 <? spare) (Status 3 0) [] r (Limits (SetThreshold enable spare media controller)) refl w
-    (λ a. accept r (Limits (SetThreshold enable spare media controller)) (record { locks = w .locks; phrase = w .phrase; tries = w .tries; bits = omega arith; spare = ltb-false 100 spare a; left = w .left })))
+    (λ a. accept r (Limits (SetThreshold enable spare media controller)) (record { locks = w .locks; phrase = w .phrase; tries = w .tries; bits = omega arith; spare = ltb-false 100 spare a; left = w .left; true-byte = refl })))
 call-next r (Locks x) w = lock-next r x w
 call-next r Nothing w = accept r Nothing w
 
@@ -247,7 +248,7 @@ pub record Ok (m : Module) : Type 0 where
 read-next : (r : Rest) (new : Reading) (over : Bool) → (100 <? new .spare) ≡ over → RestOk r → RestOk (restRead (readVerdict new) r new)
 unfolding verdict
 read-next r new true e w = rw e w
-read-next r new false e w = rw e (record { locks = w .locks; phrase = w .phrase; tries = w .tries; bits = w .bits; spare = w .spare; left = ltb-false 100 (new .spare) e })
+read-next r new false e w = rw e (record { locks = w .locks; phrase = w .phrase; tries = w .tries; bits = w .bits; spare = w .spare; left = ltb-false 100 (new .spare) e; true-byte = refl })
 
 rests-next : (m : Module) (a : Act) → RestOk (restOf m) → RestOk (restOf (nexts m a))
 unfolding restPower
@@ -255,14 +256,14 @@ rests-next m (Transfers host a b x n answer) w = w
 rests-next m (Others a b x n answer) w = rest-next (restOf m) a b x w
 rests-next m Ticks w = w
 rests-next m Powers w =
-    record { locks = relock (m .device .security .enabled); phrase = w .phrase; tries = omega arith; bits = w .bits; spare = w .spare; left = w .left }
+    record { locks = relock (m .device .security .enabled); phrase = w .phrase; tries = omega arith; bits = w .bits; spare = w .spare; left = w .left; true-byte = w .true-byte }
 rests-next m (Reads new) w = read-next (restOf m) new (100 <? new .spare) refl w
 
 pub ok-next : (m : Module) (a : Act) → Ok m → Ok (nexts m a)
 ok-next m a w = record { part = keeps-next {P = PartOk} part-ok m a (w .part); rests = rests-next m a (w .rests) }
 
 pub ok-possible : (m : Module) → Ok m → possible (m .device) ≡ true
-unfolding possible possibleTransfer possibleSecurity possibleThresholds possibleReading
+unfolding possible possibleParts possibleTransfer possibleSecurity possibleThresholds possibleReading possibleTrips
 ok-possible m w =
     rw (
       tested (m .device .transfer .phase) (m .device .transfer) (w .part .within) (w .part .in-phase),
@@ -273,13 +274,15 @@ ok-possible m w =
       lt-ltb (m .device .thresholds .enable) 8 (w .rests .bits),
       le-leb (m .device .thresholds .spare) 100 (w .rests .spare),
       le-leb (m .device .reading .spare) 100 (w .rests .left),
+      eq-eqb (m .device .trips) (trips (m .device .thresholds) (m .device .reading)) (w .rests .true-byte),
     )
 
 pub possible-ok : (m : Module) → possible (m .device) ≡ true → length (m .area) ≡ areaSize → Ok m
-unfolding possible possibleTransfer possibleSecurity possibleThresholds possibleReading
+unfolding possible possibleParts possibleTransfer possibleSecurity possibleThresholds possibleReading possibleTrips
 possible-ok m e l =
     let d = m .device in
-    let four = and-4 (possibleTransfer (d .transfer)) (possibleSecurity (d .security)) (possibleThresholds (d .thresholds)) (possibleReading (d .reading)) e in
+    let parts = and-true (possibleParts d) (possibleTrips d) e in
+    let four = and-4 (possibleTransfer (d .transfer)) (possibleSecurity (d .security)) (possibleThresholds (d .thresholds)) (possibleReading (d .reading)) (parts .0) in
     let both = and-true (possibleNumbers (d .transfer)) (possibleFault (d .transfer)) (four .0) in
     let t = tests (d .transfer .phase) (d .transfer) (both .0) in
     let q = and-true ((d .security .locked implies d .security .enabled) && (zeros? (d .security .passphrase) unless d .security .enabled)) (d .security .attempts ≤? attemptLimit) (four .1) in
@@ -294,6 +297,7 @@ possible-ok m e l =
         bits = ltb-true (d .thresholds .enable) 8 (h .0);
         spare = leb-true (d .thresholds .spare) 100 (h .1);
         left = leb-true (d .reading .spare) 100 (four .3);
+        true-byte = eqb-true (d .trips) (trips (d .thresholds) (d .reading)) (parts .1);
       };
     }
 

@@ -6,15 +6,16 @@ use mathlib.Core.{Path.{_≡_, refl, sym, ap, _∙_, subst}, Bool.{Bool, true, f
 use native.Mathlib.Omega.{arith}
 use lib.ListN.{length}
 use borrow.Author.Tests.{eq-eqb}
-use Rattle.rules.specs.{Bytes.zeros?, Numbers.areaSize, Record.{fresh, possible, possibleTransfer, possibleSecurity, possibleThresholds, possibleReading, Module}}
+use Rattle.rules.specs.{Bytes.zeros?, Numbers.areaSize, Record.{fresh, possible, possibleTransfer, possibleSecurity, possibleThresholds, possibleReading, possibleParts, possibleTrips, Module}}
 use Rattle.rules.specs.{Module.{Event, call, tick, power, reading, step}, Transfers.machine, Demand3.{freshWith, Sound}, declared.Refusal.the-variants.R, declared.Verdict.the-variants.Refused}
 use Rattle.rules.specs.Demand1.{bufferTooShort, spareOver100}
 use Rattle.rules.proofs.{page.Split.{Act, act, nexts}, page.Through.{noR, Through, through, gate-noR, reading-verdict, shut}}
 use Rattle.rules.proofs.{page.Keeps.{Ok, ok-next, ok-possible, possible-ok, Fit, fit}, page.Invariant.keeps-next}
+use Rattle.rules.specs.Health.{above, trips}
 
 -- "Fresh" is possible.
 pub possible-fresh : possible fresh ≡ true
-unfolding possible possibleTransfer possibleSecurity possibleThresholds possibleReading zeros?
+unfolding possible possibleTransfer possibleSecurity possibleThresholds possibleReading possibleParts possibleTrips zeros? above trips
 possible-fresh = refl
 
 ok-step : (m : Module) (event : Event) → Ok m → Ok (machine .next m event)

@@ -3,11 +3,11 @@
 use Prim.Native.Nat.{ℕ, _+_}
 use mathlib.Core.{Bool.{Bool, not, _&&_}, List.{List, _∷_, _++_, []}}
 use Rattle.rules.specs.{Tests.{if_then_else_, _=?_}, Bytes.le, With._with-attempts_}
-use Rattle.rules.specs.{Refusals.{Check, _gives_, verdict, statusBytes, statusLength, statusAnswer, answerAfter}, Table.{rowOf, served?, fits?, mask}}
-use Rattle.rules.specs.{Thresholds.{ThresholdCall, thresholdChecks, thresholdAnswer, thresholdChange}, Health.{healthAnswer, R4Check}}
+use Rattle.rules.specs.{Refusals.{Check, _gives_, verdict, R4Check, statusBytes, statusLength, statusAnswer, answerAfter}, Table.{rowOf, served?, fits?, mask}}
+use Rattle.rules.specs.{Thresholds.{ThresholdCall, thresholdChecks, thresholdAnswer, thresholdChange}, Health.{trips, answerWith}}
 use Rattle.rules.specs.Transfer.{TransferCall, transferChecks, transferAnswer, transferChange, transferArea, tickChange, transferPower}
 use Rattle.rules.specs.{Security.{SecurityCall, securityChecks, securityAnswer, securityChange, securityPower}, Record.{given, Module}}
-use Rattle.rules.specs.{Module.{Call, OnMask, OnHealth, OnThresholds, OnTransfer, OnSecurity, OnNothing, Event, call, tick, power, reading, reply, callIn}, History.Machine}
+use Rattle.rules.specs.{Module.{Call, OnMask, OnHealth, OnThresholds, OnTransfer, OnSecurity, OnNothing, Event, call, tick, power, reading, reply, callIn, tripsAfter}, History.Machine}
 use Rattle.rules.specs.{Transfers.{Answer, Kind, Ticked, Powered, Other, callKind}, declared.Refusal.the-variants.{R, Status}, declared.Verdict.Verdict}
 use Rattle.rules.specs.{declared.Verdict.the-variants.{Accepted, Refused}, declared.Transfer.Transfer, declared.Thresholds.Thresholds, declared.Security.Security, declared.Reading.Reading}
 
@@ -28,16 +28,17 @@ pub record Rest : Type 0 where
   pub thresholds : Thresholds
   pub security : Security
   pub reading : Reading
+  pub trips : ℕ
 
 abbrev pub partOf : Module → TransferPart
 partOf m = record { transfer = m .device .transfer; area = m .area }
 
 abbrev pub restOf : Module → Rest
-restOf m = record { thresholds = m .device .thresholds; security = m .device .security; reading = m .device .reading }
+restOf m = record { thresholds = m .device .thresholds; security = m .device .security; reading = m .device .reading; trips = m .device .trips }
 
 abbrev pub join : TransferPart → Rest → Module
 join s r =
-    record { device = record { transfer = s .transfer; thresholds = r .thresholds; security = r .security; reading = r .reading }; area = s .area }
+    record { device = record { transfer = s .transfer; thresholds = r .thresholds; security = r .security; reading = r .reading; trips = r .trips }; area = s .area }
 
 -- a call that touches the rest alone
 pub data RestCall : Type 0 where
@@ -125,7 +126,7 @@ restChecks r Nothing = []
 
 abbrev pub restBytes : Rest → RestCall → List ℕ
 restBytes r (Masks revision) = le 4 (mask revision)
-restBytes r Healths = statusBytes 0 0 ++ healthAnswer (r .thresholds) (r .reading)
+restBytes r Healths = statusBytes 0 0 ++ answerWith (r .trips) (r .reading)
 restBytes r (Limits x) = statusBytes 0 0 ++ thresholdAnswer (r .thresholds) x
 restBytes r (Locks x) = statusBytes 0 0 ++ securityAnswer (r .security) x
 restBytes r Nothing = statusBytes 0 0
@@ -133,12 +134,13 @@ restBytes r Nothing = statusBytes 0 0
 abbrev pub restChange : Rest → RestCall → Rest
 restChange r (Masks revision) = r
 restChange r Healths = r
-restChange r (Limits x) = record { thresholds = thresholdChange (r .thresholds) x; security = r .security; reading = r .reading }
-restChange r (Locks x) = record { thresholds = r .thresholds; security = securityChange (r .security) x; reading = r .reading }
+restChange r (Limits x) =
+    record { thresholds = thresholdChange (r .thresholds) x; security = r .security; reading = r .reading; trips = tripsAfter (r .thresholds) (r .reading) (r .trips) x }
+restChange r (Locks x) = record { thresholds = r .thresholds; security = securityChange (r .security) x; reading = r .reading; trips = r .trips }
 restChange r Nothing = r
 
 abbrev pub restMissed : Rest → Rest
-restMissed r = record { thresholds = r .thresholds; security = r .security with-attempts (r .security .attempts + 1); reading = r .reading }
+restMissed r = record { thresholds = r .thresholds; security = r .security with-attempts (r .security .attempts + 1); reading = r .reading; trips = r .trips }
 
 abbrev pub restAfter : Verdict → Rest → RestCall → Rest
 restAfter Accepted r x = restChange r x
@@ -152,14 +154,14 @@ unfoldable pub restNext : Rest → (unserved misfit : Bool) → RestCall → Res
 restNext r a b x = restAfter (verdict (front a b ++ restChecks r x)) r x
 
 unfoldable pub restPower : Rest → Rest
-restPower r = record { thresholds = r .thresholds; security = securityPower (r .security); reading = r .reading }
+restPower r = record { thresholds = r .thresholds; security = securityPower (r .security); reading = r .reading; trips = r .trips }
 
 -- a reading: its own spare alone may refuse it
 abbrev pub readVerdict : Reading → Verdict
 readVerdict new = verdict (R4Check new ∷ [])
 
 abbrev pub restRead : Verdict → Rest → Reading → Rest
-restRead Accepted r new = record { thresholds = r .thresholds; security = r .security; reading = new }
+restRead Accepted r new = record { thresholds = r .thresholds; security = r .security; reading = new; trips = trips (r .thresholds) new }
 restRead (Refused refusal) r new = r
 
 abbrev pub readAnswer : Verdict → Answer
