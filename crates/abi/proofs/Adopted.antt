@@ -1,9 +1,9 @@
--- What was decoded and tested decides what is taken over: a possible record stays, one that was possible before is written again, anything else is refused.
+-- What was decoded and tested decides what is taken over: a possible record stays, one that was kept before is written again, anything else is refused.
 -- Assumes nothing.
 use mathlib.Core.{Path.{_≡_, sym, _∙_, ap}, Bool.{Bool, true, false}, List.List}
 use Prim.Native.Nat.{ℕ}
 use lib.{IntN.{ℤ, pos}, ListN.length}
-use Rattle.rules.{specs.Tests.if_then_else_, specs.Record.possible, specs.Adopt.{possibleBefore, idleAgain}, specs.declared.Device.Device}
+use Rattle.rules.{specs.Tests.if_then_else_, specs.Record.possible, specs.Adopt.{keptBefore, adopted}, specs.declared.Device.Device}
 use Rattle.device_bytes.{specs.Encoding.{encodedSize, encodeOf, decodeOf}, proofs.Refused.before-whole}
 use Rattle.abi_keep.specs.Kept.{refusal}
 use Rattle.abi.specs.Abi.{Adopted}
@@ -15,9 +15,9 @@ module _ (bytes : List ℕ) {d : Device} {p : Bool} (decoded : d ≡ decodeOf by
   pub stays : p ≡ true → Adopted bytes (pos 0) bytes
   stays e = record { number-is = rw (now e); record-is = rw (now e) }
 
-  module _ {q : Bool} (before-is : q ≡ possibleBefore d) (not-now : p ≡ false) where
-    before : {b : Bool} → q ≡ b → possibleBefore (decodeOf bytes) ≡ b
-    before e = ap possibleBefore (sym decoded) ∙ sym before-is ∙ e
+  module _ {q : Bool} (before-is : q ≡ keptBefore d) (not-now : p ≡ false) where
+    before : {b : Bool} → q ≡ b → keptBefore (decodeOf bytes) ≡ b
+    before e = ap keptBefore (sym decoded) ∙ sym before-is ∙ e
 
     pub refused : q ≡ false → Adopted bytes (refusal 3) bytes
     refused e = record { number-is = rw (now not-now, before e); record-is = rw (now not-now, before e) }
@@ -25,9 +25,9 @@ module _ (bytes : List ℕ) {d : Device} {p : Bool} (decoded : d ≡ decodeOf by
     pub whole : q ≡ true → length bytes ≡ encodedSize
     whole e = before-whole bytes (before e)
 
-    pub taken : {e : Device} {number : ℤ} {bytes′ : List ℕ} → q ≡ true → e ≡ idleAgain d → number ≡ pos 0 → bytes′ ≡ encodeOf e → Adopted bytes number bytes′
-    taken was idle number-is written =
+    pub taken : {e : Device} {number : ℤ} {bytes′ : List ℕ} → q ≡ true → e ≡ adopted d → number ≡ pos 0 → bytes′ ≡ encodeOf e → Adopted bytes number bytes′
+    taken was over number-is written =
         record {
           number-is = number-is ∙ rw (now not-now, before was);
-          record-is = written ∙ ap encodeOf (idle ∙ ap idleAgain decoded) ∙ rw (now not-now, before was);
+          record-is = written ∙ ap encodeOf (over ∙ ap adopted decoded) ∙ rw (now not-now, before was);
         }

@@ -7,7 +7,7 @@ use lib.IntN.{ℤ, pos}
 use lib.ListN.{length}
 use Rattle.rules.specs.Tests.{if_then_else_, _=?_}
 use Rattle.rules.specs.Record.{fresh, possible}
-use Rattle.rules.specs.Adopt.{possibleBefore, adoptable, adopted}
+use Rattle.rules.specs.Adopt.{keptBefore, adoptable, adopted}
 use Rattle.rules.specs.Module.{Result}
 use Rattle.device_bytes.specs.Encoding.{encodedSize, encodeOf, decodeOf}
 use Rattle.abi_keep.specs.Kept.{refusal, told, kept}
@@ -29,11 +29,11 @@ pub record Made (bytes : List ℕ) (number : ℤ) (bytes′ : List ℕ) : Type 0
   pub number-is : number ≡ (if length bytes =? encodedSize then pos 0 else refusal 3)
   pub record-is : bytes′ ≡ (if length bytes =? encodedSize then encodeOf fresh else bytes)
 
--- a record that may have been kept before T-03, taken over: one that is possible stays as it is, byte for byte
+-- a record that may have been kept before T-03 or T-08, taken over: one that is possible stays as it is, byte for byte
 abbrev pub adoptedBytes : (bytes : List ℕ) → List ℕ
 adoptedBytes bytes =
     if possible (decodeOf bytes) then bytes
-    else if possibleBefore (decodeOf bytes) then encodeOf (adopted (decodeOf bytes))
+    else if keptBefore (decodeOf bytes) then encodeOf (adopted (decodeOf bytes))
     else bytes
 
 pub record Adopted (bytes : List ℕ) (number : ℤ) (bytes′ : List ℕ) : Type 0 where

@@ -84,11 +84,11 @@ pub extern "C" fn module_adopt(bytes: &mut [u8]) -> i32
     if possible {
         return 0;
     }
-    let before = device_possible::possible_before(d);
+    let before = device_possible::kept_before(d);
     if !before {
         return -3;
     }
-    abi_keep::write(device_record::idle_again(d), bytes, 0)
+    abi_keep::write(device_record::adopted(d), bytes, 0)
 }
 
 #[no_mangle]

@@ -129,10 +129,19 @@ fn put_reading(out: &mut [u8], at: usize, reading: Reading) -> usize
     text::put_field(out, spaced, reading.controller as u64, b"\n")
 }
 
+// The line of the trips.
+fn put_trips(out: &mut [u8], at: usize, trips: u8) -> usize
+    requires { ⌜ at + 40 ≤ length (now out) ⌝ }
+    ensures { λ r. ⌜ r ≤ at + 40 ⌝ }
+{
+    let named = text::put(out, at, b"trips ");
+    text::put_field(out, named, trips as u64, b"\n")
+}
+
 // The lines of a device record.
 fn put_device(out: &mut [u8], at: usize, d: Device) -> usize
-    requires { ⌜ at + 780 ≤ length (now out) ⌝ }
-    ensures { λ r. ⌜ r ≤ at + 780 ⌝ }
+    requires { ⌜ at + 820 ≤ length (now out) ⌝ }
+    ensures { λ r. ⌜ r ≤ at + 820 ⌝ }
 {
     let transfer = d.transfer;
     let phase = transfer.phase;
@@ -146,13 +155,14 @@ fn put_device(out: &mut [u8], at: usize, d: Device) -> usize
     );
     let at = put_passphrase(out, at, d.security);
     let at = put_fault(out, at, transfer);
-    put_reading(out, at, d.reading)
+    let at = put_reading(out, at, d.reading);
+    put_trips(out, at, d.trips)
 }
 
 // What follows the records' lines: the tail's line, and the end state.
 pub fn put_end(out: &mut [u8], number: u64, short: bool, d: Device, area: &[u8]) -> usize
-    requires { ⌜ 2 * length (now area) + 840 ≤ length (now out) ⌝ }
-    ensures { λ r. ⌜ r ≤ 2 * length (now (area .entry)) + 840 ⌝ }
+    requires { ⌜ 2 * length (now area) + 880 ≤ length (now out) ⌝ }
+    ensures { λ r. ⌜ r ≤ 2 * length (now (area .entry)) + 880 ⌝ }
 {
     let at = put_tail(out, 0, number, short);
     let at = put_device(out, at, d);

@@ -40,7 +40,7 @@ pub fn put_accepted(d: Device, function: Function, revision: u64, answer: &mut [
 {
     match function {
         Function::Mask => bytes_base::put_at(answer, 0, 4, call_table::mask(revision) as u64),
-        Function::GetHealth => health_answers::put_health(d.thresholds, d.reading, answer),
+        Function::GetHealth => health_answers::put_health(d.trips, d.reading, answer),
         Function::GetThreshold => threshold_answers::put_answer(d.thresholds, answer),
         Function::GetFwInfo => transfer_answers::put_info(d.transfer, answer),
         Function::Start => transfer_answers::put_started(d.transfer, answer),

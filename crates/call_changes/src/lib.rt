@@ -3,7 +3,7 @@ ghost use mathlib.Core.Path.{_≡_};
 ghost use lib.ListN.{length};
 ghost use Rattle.rules.specs.Numbers.{areaSize};
 ghost use Rattle.rules.specs.With.{_with-transfer_, _with-thresholds_, _with-security_};
-ghost use Rattle.rules.specs.Record.{moduleOf};
+ghost use Rattle.rules.specs.Record.{moduleOf, renewed};
 ghost use Rattle.rules.specs.Refusals.{verdict};
 ghost use Rattle.rules.specs.Module.{callOf, checks, change};
 ghost use Rattle.rules.proofs.page.Fitting.{Fitting};
@@ -21,10 +21,16 @@ fn with_transfer(d: Device, transfer: Transfer) -> Device
     Device { transfer, ..d }
 }
 
+// With the trips byte that they give.
 fn with_thresholds(d: Device, thresholds: Thresholds) -> Device
-    ensures { λ r. ⌜ r ≡ d with-thresholds thresholds ⌝ }
+    ensures { λ r. ⌜ r ≡ renewed (d with-thresholds thresholds) ⌝ }
 {
-    Device { thresholds, ..d }
+    let trips = health_trips::trips(thresholds, d.reading);
+    Device {
+        thresholds,
+        trips,
+        ..d
+    }
 }
 
 fn with_security(d: Device, security: Security) -> Device

@@ -86,7 +86,7 @@ module _ (s : List ℕ) (bytes : Bytes s) (f : Fine s) where
       ++ (field 4 8 (omega arith) i ++ field 4 12 (omega arith) i ++ field 8 16 (omega arith) i ++ field 8 24 (omega arith) i)
       ++ (field 1 32 (omega arith) i ++ byte-of 33 (omega arith) (sym (f .unused)) i ++ field 2 34 (omega arith) i ++ field 2 36 (omega arith) i)
       ++ (field 1 38 (omega arith) i ++ field 1 39 (omega arith) i)
-      ++ (field 1 40 (omega arith) i ++ byte-of 41 (omega arith) (sym (f .free)) i ++ field 2 42 (omega arith) i ++ field 2 44 (omega arith) i)
+      ++ (field 1 40 (omega arith) i ++ field 1 41 (omega arith) i ++ field 2 42 (omega arith) i ++ field 2 44 (omega arith) i)
       ++ middle i
       ++ (take 32 (drop 64 s) ++ tail i)
 

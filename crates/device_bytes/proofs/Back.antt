@@ -25,6 +25,7 @@ pub record InRange (d : Device) : Type 0 where
   pub read-spare : d .reading .spare < 256 ^ 1
   pub read-media : d .reading .media < 256 ^ 2
   pub read-controller : d .reading .controller < 256 ^ 2
+  pub trips : d .trips < 256 ^ 1
   pub passphrase : length (d .security .passphrase) ≡ 32
 
 phase-back : (p : Phase) → phaseOf (ofLe (le 1 (phaseNumber p))) ≡ p
@@ -88,12 +89,13 @@ module _ (d : Device) (h : InRange d) where
       media = ofLe-le 2 (d .reading .media) (h .read-media) i;
       controller = ofLe-le 2 (d .reading .controller) (h .read-controller) i;
     };
+    trips = ofLe-le 1 (d .trips) (h .trips) i;
   }
 
   pub long : length (encodeOf d) ≡ 128
   unfolding encodeOf
   long =
-      length-append (firstBytes d ++ transferBytes (d .transfer) ++ encodedThresholds (d .thresholds) ++ faultBytes (d .transfer) ++ readingBytes (d .reading) ++ zeros 18) (pass ++ zeros 32)
+      length-append (firstBytes d ++ transferBytes (d .transfer) ++ encodedThresholds (d .thresholds) ++ faultBytes (d .transfer) ++ readingBytes (d .reading) (d .trips) ++ zeros 18) (pass ++ zeros 32)
       ∙ ap (λ (k : ℕ). 64 + k) (length-append pass (zeros 32) ∙ ap (λ (k : ℕ). k + 32) (h .passphrase))
 
   tail-zero : zeros? (drop 96 (encodeOf d)) ≡ true
@@ -124,13 +126,9 @@ module _ (d : Device) (h : InRange d) where
   unfolding encodeOf
   unused-is = refl
 
-  free-is : (numberAt 1 41 (encodeOf d) =? 0) ≡ true
-  unfolding encodeOf
-  free-is = refl
-
   is-record : record? (encodeOf d) ≡ true
   unfolding record?
-  is-record = rw (long, phase-is, enabled-is, locked-is, frozen-is, unused-is, free-is, middle-zero, tail-zero) refl
+  is-record = rw (long, phase-is, enabled-is, locked-is, frozen-is, unused-is, middle-zero, tail-zero) refl
 
   pub back : decodeOf (encodeOf d) ≡ d
   unfolding decodeOf

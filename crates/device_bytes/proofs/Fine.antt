@@ -14,7 +14,6 @@ pub record Fine (s : List ℕ) : Type 0 where
   pub locked : numberAt 1 2 s ≤ 1
   pub frozen : numberAt 1 3 s ≤ 1
   pub unused : numberAt 1 33 s ≡ 0
-  pub free : numberAt 1 41 s ≡ 0
   pub between : zeros? (take 18 (drop 46 s)) ≡ true
   pub after : zeros? (drop 96 s) ≡ true
 
@@ -23,8 +22,7 @@ unfolding record?
 fine s e =
     let a = and-true _ _ e in
     let b = and-true _ _ (a .0) in
-    let c = and-true _ _ (b .0) in
-    let d = and-true _ _ (c .0) in
+    let d = and-true _ _ (b .0) in
     let f = and-true _ _ (d .0) in
     let g = and-true _ _ (f .0) in
     let h = and-true _ _ (g .0) in
@@ -36,7 +34,6 @@ fine s e =
       locked = leb-true (numberAt 1 2 s) 1 (g .1);
       frozen = leb-true (numberAt 1 3 s) 1 (f .1);
       unused = eqb-true (numberAt 1 33 s) 0 (d .1);
-      free = eqb-true (numberAt 1 41 s) 0 (c .1);
       between = b .1;
       after = a .1;
     }

@@ -48,6 +48,7 @@ in-range d vs is =
       read-spare = r .0 .1;
       read-media = r .1 .0 .1;
       read-controller = r .1 .1 .0 .1;
+      trips = o .1 .1 .1 .1 .0 .1;
       attempts = s .1 .1 .1 .0 .1;
       passphrase = passphrase-long (d .security) _ (o .1 .1 .0);
     }

@@ -40,14 +40,14 @@ encodedThresholds h = le 1 (h .spare) ++ zeros 1 ++ le 2 (h .media) ++ le 2 (h .
 abbrev pub faultBytes : Transfer → List ℕ
 faultBytes t = le 1 (t .reason) ++ le 1 (t .faulty)
 
--- the last reading: 40 spare; 41 zero; 42 to 43 media, 44 to 45 controller temperature
-abbrev pub readingBytes : Reading → List ℕ
-readingBytes r = le 1 (r .spare) ++ zeros 1 ++ le 2 (r .media) ++ le 2 (r .controller)
+-- the last reading and the trips: 40 spare; 41 trips; 42 to 43 media, 44 to 45 controller temperature
+abbrev pub readingBytes : Reading → (trips : ℕ) → List ℕ
+readingBytes r trips = le 1 (r .spare) ++ le 1 trips ++ le 2 (r .media) ++ le 2 (r .controller)
 
 -- 46 to 63 zero; 64 to 95 passphrase; 96 to 127 zero
 unfoldable pub encodeOf : Device → List ℕ
 encodeOf d =
-    firstBytes d ++ transferBytes (d .transfer) ++ encodedThresholds (d .thresholds) ++ faultBytes (d .transfer) ++ readingBytes (d .reading) ++ zeros 18
+    firstBytes d ++ transferBytes (d .transfer) ++ encodedThresholds (d .thresholds) ++ faultBytes (d .transfer) ++ readingBytes (d .reading) (d .trips) ++ zeros 18
     ++ (d .security .passphrase ++ zeros 32)
 
 -- these bytes are a record's: 128 of them, a phase that there is, each flag 0 or 1, zeros where nothing stands
@@ -59,7 +59,6 @@ record? s =
     && numberAt 1 2 s ≤? 1
     && numberAt 1 3 s ≤? 1
     && numberAt 1 33 s =? 0
-    && numberAt 1 41 s =? 0
     && zeros? (take 18 (drop 46 s))
     && zeros? (drop 96 s)
 
@@ -108,6 +107,7 @@ recordOf s =
       };
       security = securityIn s;
       reading = readingIn s;
+      trips = numberAt 1 41 s;
     }
 
 -- a record that is not possible: a fresh one, but failed, though no context was ever given out

@@ -43,17 +43,9 @@ fn is_record(s: &[u8]) -> bool
     let locked = bytes_numbers::byte(s, 2);
     let frozen = bytes_numbers::byte(s, 3);
     let unused = bytes_numbers::byte(s, 33);
-    let free = bytes_numbers::byte(s, 41);
     let between = zero_between(s);
     let after = zero_after(s);
-    (phase <= 4)
-        & (enabled <= 1)
-        & (locked <= 1)
-        & (frozen <= 1)
-        & (unused == 0)
-        & (free == 0)
-        & between
-        & after
+    (phase <= 4) & (enabled <= 1) & (locked <= 1) & (frozen <= 1) & (unused == 0) & between & after
 }
 
 fn phase_of(n: u8) -> Phase
@@ -130,11 +122,13 @@ fn to_record(s: &[u8]) -> Device
     };
     let security = to_security(s);
     let reading = to_reading(s);
+    let trips = bytes_numbers::byte(s, 41);
     Device {
         transfer,
         thresholds,
         security,
         reading,
+        trips,
     }
 }
 

@@ -64,12 +64,12 @@ fn put_fault(t: Transfer, out: &mut [u8])
     bytes_base::put_at(out, 39, 1, t.faulty as u64);
 }
 
-fn put_reading(r: Reading, out: &mut [u8])
+fn put_reading(r: Reading, trips: u8, out: &mut [u8])
     requires { ⌜ length (now out) ≡ encodedSize ⌝ }
-    ensures { λ x. ⌜ now (out .exit) ≡ splice 40 (readingBytes r) (now (out .entry)) ⌝ }
+    ensures { λ x. ⌜ now (out .exit) ≡ splice 40 (readingBytes r trips) (now (out .entry)) ⌝ }
 {
     bytes_base::put_at(out, 40, 1, r.spare as u64);
-    bytes_base::put_at(out, 41, 1, 0);
+    bytes_base::put_at(out, 41, 1, trips as u64);
     bytes_base::put_at(out, 42, 2, r.media as u64);
     bytes_base::put_at(out, 44, 2, r.controller as u64);
 }
@@ -91,7 +91,7 @@ pub fn put(d: Device, out: &mut [u8])
     put_transfer(d.transfer, out);
     put_thresholds(d.thresholds, out);
     put_fault(d.transfer, out);
-    put_reading(d.reading, out);
+    put_reading(d.reading, d.trips, out);
     bytes_base::put_at(out, 46, 18, 0);
     put_passphrase(d.security, out);
 }

@@ -1,9 +1,9 @@
-// Document 01, "The device record": whether a record is possible, each of its four parts by itself.
+// Document 01, "The device record": whether a record is possible, each of its four parts by itself, and its trips byte.
 ghost use mathlib.Core.Path.{_≡_};
 ghost use lib.ListN.{length};
 ghost use Rattle.rules.specs.Bytes.{zeros?};
-ghost use Rattle.rules.specs.Adopt.{noReading, possibleBefore};
-ghost use Rattle.rules.specs.Record.{possible, possibleNumbers, possibleFault, possibleTransfer, possibleSecurity, possibleThresholds, possibleReading};
+ghost use Rattle.rules.specs.Adopt.{noReading, possibleBefore, keptBefore};
+ghost use Rattle.rules.specs.Record.{possible, possibleNumbers, possibleFault, possibleTransfer, possibleSecurity, possibleThresholds, possibleReading, possibleParts, possibleTrips};
 use rules::AREA_SIZE;
 use rules::ATTEMPT_LIMIT;
 use rules::Device;
@@ -73,13 +73,25 @@ fn possible_reading(h: Reading) -> bool
     h.spare <= 100
 }
 
-pub fn possible(d: Device) -> bool
-    ensures { λ r. ⌜ r ≡ possible d ⌝ }
+pub fn possible_parts(d: Device) -> bool
+    ensures { λ r. ⌜ r ≡ possibleParts d ⌝ }
 {
     possible_transfer(d.transfer)
         & possible_security(d.security)
         & possible_thresholds(d.thresholds)
         & possible_reading(d.reading)
+}
+
+fn possible_trips(d: Device) -> bool
+    ensures { λ r. ⌜ r ≡ possibleTrips d ⌝ }
+{
+    d.trips == health_trips::trips(d.thresholds, d.reading)
+}
+
+pub fn possible(d: Device) -> bool
+    ensures { λ r. ⌜ r ≡ possible d ⌝ }
+{
+    possible_parts(d) & possible_trips(d)
 }
 
 fn no_reading(h: Reading) -> bool
@@ -89,7 +101,7 @@ fn no_reading(h: Reading) -> bool
 }
 
 // Whether a record was possible before faults and readings were kept.
-pub fn possible_before(d: Device) -> bool
+fn possible_before(d: Device) -> bool
     ensures { λ r. ⌜ r ≡ possibleBefore d ⌝ }
 {
     let t = d.transfer;
@@ -98,4 +110,11 @@ pub fn possible_before(d: Device) -> bool
         & possible_security(d.security)
         & possible_thresholds(d.thresholds)
         & no_reading(d.reading)
+}
+
+// Whether a record was kept before the trips byte was.
+pub fn kept_before(d: Device) -> bool
+    ensures { λ r. ⌜ r ≡ keptBefore d ⌝ }
+{
+    (d.trips == 0) & (possible_parts(d) | possible_before(d))
 }

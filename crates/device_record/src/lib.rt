@@ -1,8 +1,9 @@
-// The device record in code: fresh, the checks of R2 and R3, one wrong attempt more, and a failed record from before its faults were kept, taken over.
+// The device record in code: fresh, the checks of R2 and R3, one wrong attempt more, the trips byte renewed, and a record from before
+// taken over.
 ghost use mathlib.Core.Path.{_≡_};
 ghost use Prim.Native.Nat.{_≤_};
-ghost use Rattle.rules.specs.Record.{fresh, moduleOf};
-ghost use Rattle.rules.specs.Adopt.{idleAgain};
+ghost use Rattle.rules.specs.Record.{fresh, moduleOf, renewed};
+ghost use Rattle.rules.specs.Adopt.{idleAgain, adopted};
 ghost use Rattle.rules.specs.Refusals.{verdict, eventChecks, recordLeft};
 use rules::AREA_SIZE;
 use rules::Device;
@@ -46,6 +47,7 @@ pub fn fresh() -> Device
             media: 0,
             controller: 0,
         },
+        trips: 0,
     }
 }
 
@@ -80,7 +82,15 @@ pub fn left(status: u16, d: Device) -> Device
     d
 }
 
-pub fn idle_again(d: Device) -> Device
+// With the trips byte that its thresholds and its reading give.
+pub fn renewed(d: Device) -> Device
+    ensures { λ r. ⌜ r ≡ renewed d ⌝ }
+{
+    let trips = health_trips::trips(d.thresholds, d.reading);
+    Device { trips, ..d }
+}
+
+fn idle_again(d: Device) -> Device
     ensures { λ r. ⌜ r ≡ idleAgain d ⌝ }
 {
     let transfer = Transfer {
@@ -89,4 +99,19 @@ pub fn idle_again(d: Device) -> Device
         ..d.transfer
     };
     Device { transfer, ..d }
+}
+
+// What a record from before is taken over as.
+pub fn adopted(d: Device) -> Device
+    ensures { λ r. ⌜ r ≡ adopted d ⌝ }
+{
+    let possible = device_possible::possible(d);
+    let parts = device_possible::possible_parts(d);
+    if possible {
+        return d;
+    }
+    if parts {
+        return renewed(d);
+    }
+    renewed(idle_again(d))
 }

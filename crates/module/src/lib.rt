@@ -2,8 +2,7 @@
 ghost use mathlib.Core.Path.{_≡_};
 ghost use mathlib.Core.List.{[], _∷_};
 ghost use Rattle.rules.specs.Record.{fresh, moduleOf};
-ghost use Rattle.rules.specs.Refusals.{verdict};
-ghost use Rattle.rules.specs.Health.{R4Check};
+ghost use Rattle.rules.specs.Refusals.{verdict, R4Check};
 ghost use Rattle.rules.specs.Module.{callResult, tickResult, powerResult, readingChecks, readingResult};
 ghost use Rattle.module.specs.Promise.{Promised};
 use rules::Device;
@@ -119,14 +118,14 @@ fn judge_reading(d: Device, area: &[u8], new: Reading) -> Verdict
     }
 }
 
-// The record keeps the new reading.
+// The record keeps the new reading, and the trips byte that it gives.
 pub fn reading(d: Device, area: &[u8], new: Reading) -> Outcome
     ensures { λ r. ⌜ Promised (readingResult (moduleOf d (now (area .entry))) new) r (now (area .entry)) [] ⌝ }
 {
     let verdict = judge_reading(d, area, new);
     match verdict {
         Verdict::Accepted => {
-            let kept = Device { reading: new, ..d };
+            let kept = device_record::renewed(Device { reading: new, ..d });
             result(kept, verdict, 0)
         }
         Verdict::Refused(_) => result(d, verdict, 0),

@@ -14,14 +14,14 @@ returns c =
 returns-2 : tie.Need-returns-2
 returns-2 c =
     let k = c .before .before .before in
-    refused (k .before .before .before .before .args .bytes .now) (k .before .decode .ensures) (k .possible .ensures) (c .before .possible-before .ensures)
+    refused (k .before .before .before .before .args .bytes .now) (k .before .decode .ensures) (k .possible .ensures) (c .before .kept-before .ensures)
     (c .before .before .if1 .left) (not-true _ (c .if2 .taken))
 
 write-requires : tie.Need-write-requires
 write-requires c κs =
     let b = c .before .before .before in
     let k = b .before .before in (
-      whole (k .before .before .before .before .args .bytes .now) (k .before .decode .ensures) (k .possible .ensures) (b .possible-before .ensures)
+      whole (k .before .before .before .before .args .bytes .now) (k .before .decode .ensures) (k .possible .ensures) (b .kept-before .ensures)
           (b .before .if1 .left) (not-false _ (c .before .before .if2 .left)),
       omega arith,
     )
@@ -32,8 +32,8 @@ returns-3 c =
     let i = c .before .before .before .before in
     let b = i .before .before in
     let k = b .before .before in
-    taken (k .before .before .before .before .args .bytes .now) (k .before .decode .ensures) (k .possible .ensures) (b .possible-before .ensures)
-    (b .before .if1 .left) (not-false _ (i .before .if2 .left)) (i .idle-again .ensures) (passed-on (w .ok) (w .ensures .number-is)) (w .ensures .bytes-are)
+    taken (k .before .before .before .before .args .bytes .now) (k .before .decode .ensures) (k .possible .ensures) (b .kept-before .ensures)
+    (b .before .if1 .left) (not-false _ (i .before .if2 .left)) (i .adopted .ensures) (passed-on (w .ok) (w .ensures .number-is)) (w .ensures .bytes-are)
 
 -- by search: what decode, the two tests and the change need; the buffer's length
 pub module-adopt-spec : {M : Type 1} → statement M

@@ -3,7 +3,7 @@
 use mathlib.Core.List.{[], _∷_}
 use Rattle.abi_keep.proofs.Numbers.{passed-on}
 use Rattle.device_bytes.specs.Encoding.{decodeOf}
-use Rattle.rules.{specs.declared.Device.Device, specs.Record.moduleOf, specs.Module.readingResult, specs.Health.{newReading, R4Check}}
+use Rattle.rules.{specs.declared.Device.Device, specs.Record.moduleOf, specs.Module.readingResult, specs.Health.newReading, specs.Refusals.R4Check}
 use Rattle.abi.proofs.{Kept.{event-keepable, of-decoded, occurred}, module_reading.Statement.statement}
 use borrow.Author.Needs.{needs}
 use Rattle.abi.proofs.module_reading.Tie as tie

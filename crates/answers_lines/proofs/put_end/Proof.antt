@@ -1,4 +1,4 @@
--- `answers_lines::put_end` meets its contract. The tail takes at most 40 bytes, the record 780, and the area two digits for each of its bytes and 20 more.
+-- `answers_lines::put_end` meets its contract. The tail takes at most 40 bytes, the record 820, and the area two digits for each of its bytes and 20 more.
 -- Assumes nothing.
 use borrow.Author.Needs.{needs}
 use Rattle.answers_lines.proofs.put_end.Statement.{statement}

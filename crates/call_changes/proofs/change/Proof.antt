@@ -4,7 +4,7 @@ use mathlib.Core.Path.{refl, _∙_, ap}
 use native.Mathlib.Omega.{arith}
 use lib.ListN.{length, length-drop}
 use Rattle.bytes_base.proofs.Parts.{rest}
-use Rattle.rules.{specs.Security.setPassphraseChange, specs.Record.{moduleOf, _with-device_}, specs.With.{_with-transfer_, _with-thresholds_, _with-security_}}
+use Rattle.rules.{specs.Security.setPassphraseChange, specs.Record.{moduleOf, _with-device_, renewed}, specs.With.{_with-transfer_, _with-thresholds_, _with-security_}}
 use Rattle.rules.{specs.declared.Device.Device, specs.declared.Transfer.Transfer, specs.declared.Thresholds.Thresholds, specs.declared.Security.Security}
 use Rattle.rules.proofs.page.Told.{there, passed, changed}
 use borrow.Author.Needs.{needs}
@@ -79,7 +79,7 @@ returns-9 : tie.Need-returns-9
 returns-9 c =
     let a = c .before .before .before .before .before .before .args in
     let m = moduleOf (a .d) (a .area .now) in
-    changed m (a .revision) (a .request .now) (c .before .before .enum-told9 .given .1) (ap (λ (x : Device). m with-device x) (c .with-thresholds .ensures ∙ ap (λ (x : Thresholds). a .d with-thresholds x) (c .before .set .ensures)))
+    changed m (a .revision) (a .request .now) (c .before .before .enum-told9 .given .1) (ap (λ (x : Device). m with-device x) (c .with-thresholds .ensures ∙ ap (λ (x : Thresholds). renewed (a .d with-thresholds x)) (c .before .set .ensures)))
 
 returns-10 : tie.Need-returns-10
 returns-10 c = let a = c .before .before .before .before .args in changed (moduleOf (a .d) (a .area .now)) (a .revision) (a .request .now) (c .enum-told10 .given .1) refl

@@ -25,7 +25,7 @@ returns c =
     let first : Placed 0 (firstBytes d) old _ = record { inside = omega arith; is = o .put-first .ensures } in
     let numbers = then (encodedThresholds (d .thresholds)) (then (transferBytes (d .transfer)) first (p .put-transfer .ensures)) (q .put-thresholds .ensures) in
     let fault = then (faultBytes (d .transfer)) numbers (s .put-fault .ensures) in
-    then (d .security .passphrase ++ zeros 32) (then (zeros 18) (then (readingBytes (d .reading)) fault (u .put-reading .ensures)) (r .put-at .ensures)) (z .put-passphrase .ensures) .is
+    then (d .security .passphrase ++ zeros 32) (then (zeros 18) (then (readingBytes (d .reading) (d .trips)) fault (u .put-reading .ensures)) (r .put-at .ensures)) (z .put-passphrase .ensures) .is
     ∙ copy-whole (encodeOf d) old (omega (arith, long d (in-range d _ (k .good .0)), k .pre))
 
 -- by search: put-first-requires, put-transfer-requires, put-thresholds-requires, put-fault-requires, put-reading-requires, put-at-requires, put-passphrase-requires, same-length

@@ -1,7 +1,7 @@
 -- `device_encode::put_reading` meets its contract. Four stores, each right behind the one before (proofs/Built.antt).
 -- Assumes nothing.
 use native.Mathlib.Omega.{arith}
-use Rattle.rules.specs.Bytes.{le, zeros}
+use Rattle.rules.specs.Bytes.{le}
 use Rattle.device_encode.proofs.{Built.{Placed, then}, put_reading.Statement.statement}
 use borrow.Author.Needs.{needs}
 use Rattle.device_encode.proofs.put_reading.Tie as tie
@@ -15,7 +15,7 @@ returns c =
     let k = o .before .before .before .before in
     let r′ = k .args .r in
     let first : Placed 40 (le 1 (r′ .spare)) (k .args .out .now) _ = record { inside = omega (arith, k .pre); is = o .put-at .ensures } in
-    then (le 2 (r′ .controller)) (then (le 2 (r′ .media)) (then (zeros 1) first (p .put-at2 .ensures)) (q .put-at3 .ensures)) (r .put-at4 .ensures) .is
+    then (le 2 (r′ .controller)) (then (le 2 (r′ .media)) (then (le 1 (k .args .trips)) first (p .put-at2 .ensures)) (q .put-at3 .ensures)) (r .put-at4 .ensures) .is
 
 -- by search: cast-put-at, put-at-requires, put-at-requires-2, cast-put-at-2, put-at-requires-3, cast-put-at-3, put-at-requires-4, same-length
 pub put-reading-spec : {M : Type 1} → statement M

@@ -1,4 +1,4 @@
--- `device_possible::possible` meets its contract. It is the four parts of the record, each possible.
+-- `device_possible::possible` meets its contract. Its parts are possible, and its trips byte is true.
 -- Assumes nothing.
 use Rattle.rules.specs.Record.{possible}
 use borrow.Author.Needs.{needs}
@@ -7,15 +7,8 @@ use Rattle.device_possible.proofs.possible.Tie as tie
 
 returns : tie.Need-returns
 unfolding possible
-returns c = simp (c .before .before .before .possible-transfer .ensures, c .before .before .possible-security .ensures, c .before .possible-thresholds .ensures, c .possible-reading .ensures)
+returns c = simp (c .before .possible-parts .ensures, c .possible-trips .ensures)
 
--- by search: possible-transfer-requires, possible-security-requires, possible-thresholds-requires, possible-reading-requires
+-- by search: possible-parts-requires, possible-trips-requires
 pub possible-spec : {M : Type 1} → statement M
-possible-spec =
-    tie.close
-    (tie.spec
-    (λ c κs. search needs)
-    (λ c κs. search needs)
-    (λ c κs. search needs)
-    (λ c κs. search needs)
-    returns)
+possible-spec = tie.close (tie.spec (λ c κs. search needs) (λ c κs. search needs) returns)

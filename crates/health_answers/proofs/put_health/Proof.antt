@@ -13,12 +13,12 @@ returns c =
     let l = k .before .before .before .before in
     let m = l .before .before .before .before in
     let n = m .before .before .before .before in
-    let o = n .before .before .before .before in
+    let o = n .before .before .before in
     let p = o .before .before .before .before in
     let a = p .before .before .before .args in
     k .copy .ensures
     ∙ ap (λ (new : List ℕ). splice 0 new (a .answer .now))
-    (health-built (a .h) (a .reading) (n .before .trips .ensures) (p .put-at .ensures) (o .put-at2 .ensures) (n .put-at3 .ensures) (m .put-at4 .ensures) (l .put-at5 .ensures))
+    (health-built (a .trips) (a .reading) (p .put-at .ensures) (o .put-at2 .ensures) (n .put-at3 .ensures) (m .put-at4 .ensures) (l .put-at5 .ensures))
 
 -- by search: each array lent, each number widened, each place inside, the room for the copy, the buffer's length
 pub put-health-spec : {M : Type 1} → statement M
@@ -28,8 +28,6 @@ put-health-spec =
     (λ c. search needs)
     (λ c κs. search needs)
     (λ c. search needs)
-    (λ c. search needs)
-    (λ c κs. search needs)
     (λ c. search needs)
     (λ c κs. search needs)
     (λ c. search needs)

@@ -1,7 +1,7 @@
 -- `module::judge_reading` meets its contract. R2 and R3, then R4.
 -- Assumes nothing.
 use mathlib.Core.{Path.{sym, _∙_}, List.{[], _∷_}}
-use Rattle.rules.{specs.Record.moduleOf, specs.Refusals.eventChecks, specs.Health.R4Check}
+use Rattle.rules.{specs.Record.moduleOf, specs.Refusals.{eventChecks, R4Check}}
 use Rattle.call_checks.proofs.Joined.{stands, decides}
 use borrow.Author.Needs.{needs}
 use Rattle.module.proofs.judge_reading.Statement.{statement}

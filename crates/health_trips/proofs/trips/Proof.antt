@@ -1,8 +1,8 @@
--- `health_answers::trips` meets its contract. Three flags that are shifted apart add up to the byte (proofs/Built.antt).
+-- `health_trips::trips` meets its contract. Three flags that are shifted apart add up to the byte (proofs/Shifted.antt).
 -- Assumes nothing.
-use Rattle.health_answers.proofs.{Built.tripped, trips.Statement.statement}
+use Rattle.health_trips.proofs.{Shifted.tripped, trips.Statement.statement}
 use borrow.Author.Needs.{needs}
-use Rattle.health_answers.proofs.trips.Tie as tie
+use Rattle.health_trips.proofs.trips.Tie as tie
 
 returns : tie.Need-returns
 returns c =

@@ -1,9 +1,9 @@
--- `health_answers::above` meets its contract. Each return is a choice of the definition's, and its tests are the flags of the code.
+-- `health_trips::above` meets its contract. Each return is a choice of the definition's, and its tests are the flags of the code.
 -- Assumes nothing.
 use Rattle.rules.specs.Health.{above}
 use borrow.Author.Needs.{needs}
-use Rattle.health_answers.proofs.above.Statement.{statement}
-use Rattle.health_answers.proofs.above.Tie as tie
+use Rattle.health_trips.proofs.above.Statement.{statement}
+use Rattle.health_trips.proofs.above.Tie as tie
 
 returns : tie.Need-returns
 unfolding above
