@@ -118,16 +118,18 @@ extern "C" {
  * set below zero. 0190h is 25 degrees, 8190h is 25 below zero; 8000h equals 0000h. Any word is one.
  *
  * An alarm trips where its enable bit is set and the last reading's spare is below the spare threshold, or its temperature above
- * the temperature's. What equals its threshold does not trip. It is not kept: each answer of MODULE_GET_HEALTH compares the last
- * reading with the thresholds as they are. Before the first reading spare and temperatures are 0, and answered as valid. */
+ * the temperature's. What equals its threshold does not trip. The record keeps the trips byte, and a reading and a Set Threshold
+ * renew it: at each answer of MODULE_GET_HEALTH it is what the last reading and the thresholds as they are give. Before the first
+ * reading spare and temperatures are 0, and answered as valid. */
 
 /* The version of the record's layout, for the caller to keep beside a record that outlives this library: the record's bytes
  * do not say it. Where a field joins the record it is another number. */
-#define MODULE_RECORD_LAYOUT 3
+#define MODULE_RECORD_LAYOUT 4
 
-/* What a record kept under an older layout means under layout 3. Layout 2 had no reading: the same, with a reading of zeros.
- * Layout 1 had no fault either: likewise, but in Failed. There it kept no reason, so that the record is not possible any more, and
- * gives R3 to everything, a power cycle too; module_adopt takes it over. */
+/* What a record kept under an older layout means under layout 4. Layout 3 had no trips byte: the same, where no alarm had tripped.
+ * Where one had, the byte is not the one that thresholds and reading give, so that the record is not possible any more, and gives
+ * R3 to everything, a power cycle too. Layout 2 had no reading either: likewise, with a reading of zeros. Layout 1 had no fault
+ * either: likewise, and in Failed it kept no reason, which is not possible any more. module_adopt takes all of these over. */
 
 /* The reasons of a fault, in the order in which they are looked for: the size of what was received; then, from record 0 up,
  * a record's number, count, version and sum. */
@@ -155,7 +157,7 @@ extern "C" {
  *   38      in Failed, the reason of the first fault, MODULE_FAULT_SIZE to MODULE_FAULT_SUM; else 0
  *   39      in Failed, the number of its record, from 0 to 127; a tick writes 0 for MODULE_FAULT_SIZE; else 0
  *   40      the last reading: spare, 0 to 100
- *   41      zero
+ *   41      the alarms that have tripped, by thresholds and last reading: bit 0 spare, 1 media, 2 controller temperature
  *   42-43   the last reading: media temperature
  *   44-45   the last reading: controller temperature
  *   46-63   zero
@@ -225,13 +227,14 @@ int32_t module_power(uint8_t *record, size_t record_len, const uint8_t *area, si
 int32_t module_reading(uint8_t *record, size_t record_len, const uint8_t *area, size_t area_len, uint8_t spare, uint16_t media,
                        uint16_t controller);
 
-/* A record that an older library may have kept, taken over: one in Failed without a reason, its bytes 38 to 63 zero, as layout 1
- * has it, becomes Idle with received 0; every other byte, and every byte of any other record, stays as it is. Once, after an
- * update of the library, before anything else; a second time changes nothing. Where the record is in slots, as step 2 of "Each
- * time that power comes back", under "Power loss".
+/* A record that an older library may have kept, taken over: its trips byte, which is zero, becomes the one that thresholds and
+ * reading give; and one in Failed without a reason, its bytes 38 to 63 zero, as layout 1 has it, becomes Idle with received 0.
+ * Every other byte, and every byte of a record that is possible as it is, stays as it was. Once, after an update of the library,
+ * before anything else; a second time changes nothing. Where the record is in slots, as step 2 of "Each time that power comes
+ * back", under "Power loss".
  *
  * Reads:   record.
- * Writes:  record, where it is in Failed without a reason.
+ * Writes:  record, where an alarm has tripped that it does not keep, or where it is in Failed without a reason.
  * Answers: 0; MODULE_R3 where the bytes are no possible record of this library nor of an older one. */
 int32_t module_adopt(uint8_t *record, size_t record_len);
 
@@ -255,7 +258,7 @@ int32_t module_adopt(uint8_t *record, size_t record_len);
  * Each time that power comes back:
  *   1. slots_read into a record in ordinary memory.
  *   2. After an update of the library, where MODULE_RECORD_LAYOUT is not the number kept beside the slots: module_adopt on
- *      that record. Without it a record of layout 1 in Failed gets R3 in the next step, each time.
+ *      that record. Without it a record with a tripped alarm, or of layout 1 in Failed, gets R3 in the next step, each time.
  *   3. module_power on that record. A number below 0, here, from module_adopt or from slots_read: these bytes were not kept
  *      so, and the module stays off.
  *   4. Keep the record, as below; after an update, then MODULE_RECORD_LAYOUT beside it, in this order, so that where power

@@ -42,6 +42,7 @@ static void prepare(const char *what)
     device.spare = 10;
     device.media = 560;
     device.controller = 0x8010;
+    device.trips = device_trips(&device);
     if (strcmp(what, "tick") == 0) {
         make_image();
         device.phase = VERIFYING;

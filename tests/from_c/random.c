@@ -169,6 +169,7 @@ static void possible_record(void)
     device.read_spare = spare_near(device.spare);
     device.read_media = word_near(device.media);
     device.read_controller = word_near(device.controller);
+    device.trips = device_trips(&device);
     device.enabled = percent(70);
     device.locked = device.enabled && percent(40);
     device.frozen = percent(15);
@@ -179,8 +180,18 @@ static void possible_record(void)
     record_encode(&device, mine(&record));
 }
 
-/* What a record's fault and its reading can have wrong. */
-enum bad_field { NOTHING, NO_REASON, REASON_6, RECORD_128, REASON_ELSEWHERE, RECORD_ELSEWHERE, SPARE_OVER_100, BAD_FIELDS };
+/* What a record's fault, its reading and its trips byte can have wrong. */
+enum bad_field {
+    NOTHING,
+    NO_REASON,
+    REASON_6,
+    RECORD_128,
+    REASON_ELSEWHERE,
+    RECORD_ELSEWHERE,
+    SPARE_OVER_100,
+    WRONG_TRIPS,
+    BAD_FIELDS
+};
 
 static enum bad_field bad_field;
 
@@ -204,28 +215,44 @@ static void spoil_reading(void)
     mine(&record)[40] = (uint8_t)(percent(50) ? 101 : 101 + below(155));
 }
 
+/* Another byte, most often by one of its three bits. */
+static void spoil_trips(void)
+{
+    bad_field = WRONG_TRIPS;
+    mine(&record)[41] ^= (uint8_t)(1 << (percent(75) ? below(3) : below(8)));
+}
+
 /* A record with something wrong, or nearly. */
 static void spoil_record(void)
 {
     uint8_t *at = mine(&record);
 
-    switch (below(7)) {
+    switch (below(8)) {
     case 0: at[below(record.length)] ^= (uint8_t)(1 << below(8)); break;
     case 1: at[below(6)] = (uint8_t)below(12); break;
     case 2: at[below(46)] = (uint8_t)next(); break;
-    case 3: at[percent(50) ? 33 + 8 * below(2) : percent(50) ? 46 + below(18) : 96 + below(32)] = (uint8_t)next(); break;
+    case 3: at[percent(50) ? 33 : percent(50) ? 46 + below(18) : 96 + below(32)] = (uint8_t)next(); break;
     case 4: put(at + 12, 4, 16384 + below(3)); break;
     case 5: spoil_fault(); break;
     case 6: spoil_reading(); break;
+    case 7: spoil_trips(); break;
     }
 }
 
-/* A record that an older library may have kept: the first had no fault in Failed, and no reading. Now and then something is wrong
- * with it, or it has a reading all the same. */
+/* A record that an older library may have kept: none had a trips byte, the first two no reading, the first no fault in Failed.
+ * Now and then something is wrong with it, or it has a reading all the same. */
 static void old_record(void)
 {
+    uint8_t *at;
+
     possible_record();
-    memset(mine(&record) + 38, 0, percent(75) ? 8 : 2);
+    at = mine(&record);
+    switch (below(4)) {
+    case 0: memset(at + 38, 0, 8); break;
+    case 1: memset(at + 40, 0, 6); break;
+    case 2: at[41] = 0; break;
+    default: at[38] = at[39] = at[41] = 0; break;
+    }
     if (percent(25))
         spoil_record();
 }
@@ -549,6 +576,8 @@ static void show(const struct turn *turn, uint64_t number, const char *what, con
 enum { STATUS = 5, TRIPS = 8 }; /* kinds from STATUS on are statuses, or the slots' numbers; the trips byte has three bits */
 
 static uint64_t tally[EVENTS][32], stagings, failures[SUM_FAULT + 1], refused_fields[BAD_FIELDS], taken_over, left_alone;
+static uint64_t renewed;        /* taken over by its trips byte alone */
+static uint64_t wrong_trips[EVENTS];    /* R3 for a trips byte that is not the one of thresholds and reading, by event */
 static uint64_t with_reading;   /* Failed without a reason, but with a reading: not taken over */
 static uint64_t trips[TRIPS];   /* function 1 accepted, by what it told */
 static uint64_t health[4];      /* function 1 answered, by revision */
@@ -582,6 +611,7 @@ static void count_adoption(unsigned kind)
 
     taken_over += kind == 0 && !untouched(&record, 0);
     left_alone += kind == 0 && untouched(&record, 0);
+    renewed += kind == 0 && lent(&record, 0)[41] != was[41] && lent(&record, 0)[0] == was[0];
     with_reading += kind == 3 && record.length == RECORD_BYTES && was[0] == FAILED && all_zero(was + 38, 2)
         && !all_zero(was + 40, 6);
 }
@@ -618,15 +648,17 @@ static void count(const struct turn *turn)
     }
     if (turn->event == ADOPT)
         count_adoption(kind);
-    else if (kind == 3)
+    else if (kind == 3) {
         refused_fields[bad_field]++;
+        wrong_trips[turn->event] += bad_field == WRONG_TRIPS;
+    }
     if (turn->event == CALL && kind == STATUS + MODULE_WRONG_FIELD)
         count_reserved(turn);
 }
 
 static const char *const reasons[] = {"none", "size", "number", "count", "version", "sum"};
 static const char *const bad_fields[] = {"nothing", "no reason in Failed", "reason 6", "record 128", "a reason elsewhere",
-                                         "a record elsewhere", "a reading's spare over 100"};
+                                         "a record elsewhere", "a reading's spare over 100", "a wrong trips byte"};
 
 static void report_health(void)
 {
@@ -726,7 +758,10 @@ static bool reached_all(void)
         all &= reached(finish_bits[bit], "refused by itself", "a reserved bit of a Finish");
     for (int bit = 3; bit < 16; bit++)
         all &= reached(enable_bits[bit], "refused by itself", "a reserved enable bit");
+    for (int event = CALL; event <= READING; event++)
+        all &= reached(wrong_trips[event], names[event], "R3 for a wrong trips byte");
     all &= reached(taken_over, names[ADOPT], "a record taken over");
+    all &= reached(renewed, names[ADOPT], "a trips byte renewed");
     all &= reached(left_alone, names[ADOPT], "a record left as it was");
     all &= reached(with_reading, names[ADOPT], "R3 for a reading in Failed without a reason");
     return all;

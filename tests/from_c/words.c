@@ -28,6 +28,7 @@ static int compared(uint16_t word, uint16_t near)
     device.enable = 6;
     device.media = near;
     device.controller = word;
+    device.trips = device_trips(&device);
     record_encode(&device, one);
     record_encode(&device, other);
     if (module_reading(one, sizeof one, area, sizeof area, 0, word, near) == 0
