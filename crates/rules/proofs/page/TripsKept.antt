@@ -6,17 +6,17 @@ use lib.ListN.{length}
 use borrow.Author.Tests.{eqb-true, eq-eqb}
 use Rattle.rules.specs.{Numbers.areaSize, Record.{possible, possibleParts, possibleTrips, Module}, Refusals.statusBytes, Health.{trips, answerWith}}
 use Rattle.rules.specs.{Module.{Call, OnMask, OnHealth, OnThresholds, OnTransfer, OnSecurity, OnNothing, acceptedAnswer, Event, step}, Demand3.freshWith}
-use Rattle.rules.specs.{TripsKept.{True, after, answerBefore, RequestT08}, declared.Device.Device}
+use Rattle.rules.specs.{TripsKept.{ByteTrue, after, answerBefore, RequestT08}, declared.Device.Device}
 use Rattle.rules.proofs.{page.Choice.and-true, page.Possible.{possible-fresh, possible-next, area-next}}
 
-asked-besides : (d : Device) → (possible d ≡ true) ↔ ((possibleParts d ≡ true) × True d)
+asked-besides : (d : Device) → (possible d ≡ true) ↔ ((possibleParts d ≡ true) × ByteTrue d)
 unfolding possible possibleTrips
 asked-besides d = (
   λ e. let both = and-true (possibleParts d) (possibleTrips d) e in (both .0, eqb-true (d .trips) (trips (d .thresholds) (d .reading)) (both .1)),
   λ h. rw (h .0) (eq-eqb (d .trips) (trips (d .thresholds) (d .reading)) (h .1)),
 )
 
-kept-true : (m : Module) (event : Event) → possible (m .device) ≡ true → length (m .area) ≡ areaSize → True (step m event .after .device)
+kept-true : (m : Module) (event : Event) → possible (m .device) ≡ true → length (m .area) ≡ areaSize → ByteTrue (step m event .after .device)
 kept-true m event p l = asked-besides (step m event .after .device) .0 (possible-next m event p l) .1
 
 same-answers : (m : Module) (asked : Call) → possible (m .device) ≡ true → acceptedAnswer m asked ≡ answerBefore m asked
