@@ -45,7 +45,12 @@ pub written-out : RequestT08 → TripsWrittenOut
 unfolding rowOf callResult
 written-out demand =
     record {
+      possible-only = λ d p. demand .asked-besides d .0 p;
+      possible-where = λ d parts byte. demand .asked-besides d .1 (parts, byte);
       wrong-byte = λ m l wrong. all-R3 m l (not-possible demand m wrong);
+      true-after = demand .kept-true;
+      answered = λ m host revision request buffer p e.
+          written (verdict (callChecks m revision 1 request buffer)) m OnHealth 132 buffer e ∙ ap (λ (bytes : List ℕ). bytes ++ drop 132 buffer) (demand .same-answers m OnHealth p);
       polled = λ area l events host revision request buffer e.
           let m = left (moduleOf fresh area) events in
           written (verdict (callChecks m revision 1 request buffer)) m OnHealth 132 buffer e

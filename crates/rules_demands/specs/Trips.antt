@@ -1,12 +1,13 @@
--- Document 02, T-08, written out: what a record with another byte gets, and what function 1 answers after any events from fresh; and by examples.
+-- Document 02, T-08, written out: which records are possible, what one with another byte gets, that every event leaves the byte true, and what function 1 answers, on a
+-- possible record and after any events from fresh; and by examples.
 -- Assumes nothing.
 use Prim.Native.Nat.{ℕ, _≤_}
 use mathlib.Core.{Path._≡_, Bool.true, List.{List, [], _∷_, _++_, map}}
 use lib.ListN.{length, drop, replicate}
-use Rattle.rules.specs.Record.{fresh, possible, Module, moduleOf}
+use Rattle.rules.specs.Record.{fresh, possible, possibleParts, Module, moduleOf}
 use Rattle.rules.specs.Health.{newReading, trips, healthAnswer}
 use Rattle.rules.specs.Module.{Event, call, tick, power, reading, step}
-use Rattle.rules.specs.declared.{Refusal.the-variants.R, Verdict.the-variants.{Accepted, Refused}, Reading.Reading}
+use Rattle.rules.specs.declared.{Refusal.the-variants.R, Verdict.the-variants.{Accepted, Refused}, Reading.Reading, Device.Device}
 
 -- a module that these events leave
 abbrev pub left : Module → List Event → Module
@@ -22,8 +23,14 @@ pub record AllR3 (m : Module) : Type 0 where
   pub to-readings : (new : Reading) → (step m (reading new) .reply .verdict ≡ Refused (R 3)) × (step m (reading new) .after ≡ m)
 
 pub record TripsWrittenOut : Type 0 where
+  -- possible asks for the byte that thresholds and reading give, and for what it asked before, and for nothing else
+  pub possible-only : (d : Device) → possible d ≡ true → (possibleParts d ≡ true) × (d .trips ≡ trips (d .thresholds) (d .reading))
+  pub possible-where : (d : Device) → possibleParts d ≡ true → d .trips ≡ trips (d .thresholds) (d .reading) → possible d ≡ true
   pub wrong-byte : (m : Module) → length (m .area) ≡ 16384 → (m .device .trips ≡ trips (m .device .thresholds) (m .device .reading) → ⊥) → AllR3 m
-  -- an accepted call of function 1, after any events from a fresh module: the byte is the one that thresholds and reading then give
+  pub true-after : (m : Module) (event : Event) → possible (m .device) ≡ true → length (m .area) ≡ 16384 → step m event .after .device .trips ≡ trips (step m event .after .device .thresholds) (step m event .after .device .reading)
+  -- an accepted call of function 1 on a possible record, and after any events from a fresh module: the byte is the one that thresholds and reading then give
+  pub answered : (m : Module) (host revision : ℕ) (request buffer : List ℕ) → possible (m .device) ≡ true → step m (call host revision 1 request buffer) .reply .verdict ≡ Accepted
+      → step m (call host revision 1 request buffer) .answer ≡ 0 ∷ 0 ∷ 0 ∷ 0 ∷ healthAnswer (m .device .thresholds) (m .device .reading) ++ drop 132 buffer
   pub polled : (area : List ℕ) → length area ≡ 16384 → (events : List Event) (host revision : ℕ) (request buffer : List ℕ)
       → step (left (moduleOf fresh area) events) (call host revision 1 request buffer) .reply .verdict ≡ Accepted
       → step (left (moduleOf fresh area) events) (call host revision 1 request buffer) .answer
