@@ -148,9 +148,15 @@ one-of-them d (inl e) = either (possible d) (keptBefore d) (inl e)
 one-of-them d (inr h) =
     either (possible d) (d .trips =? 0 && (possibleParts d || possibleBefore d)) (inr (rw (eq-eqb (d .trips) 0 (h .0)) (either (possibleParts d) (possibleBefore d) (h .1))))
 
-no-byte : (d : Device) → adoptable d ≡ true → possible d ≡ false → d .trips ≡ 0
+or-true : (a b : Bool) → (a || b) ≡ true → (a ≡ true) ⊎ (b ≡ true)
+or-true true b e = inl refl
+or-true false b e = inr e
+
+no-byte : (d : Device) → adoptable d ≡ true → possible d ≡ false → (d .trips ≡ 0) × ((possibleParts d ≡ true) ⊎ (possibleBefore d ≡ true))
 unfolding keptBefore
-no-byte d e p = eqb-true (d .trips) 0 (and-true (d .trips =? 0) (possibleParts d || possibleBefore d) (rw p at e) .0)
+no-byte d e p =
+    let both = and-true (d .trips =? 0) (possibleParts d || possibleBefore d) (rw p at e) in
+    (eqb-true (d .trips) 0 (both .0), or-true (possibleParts d) (possibleBefore d) (both .1))
 
 idle : (d taken : Device) → taken ≡ renewed (idleAgain d) → IdleWithAllElse d taken
 idle d taken e =
@@ -167,6 +173,7 @@ idle d taken e =
       same-security = refl;
       same-thresholds = refl;
       same-reading = refl;
+      byte-due = refl;
     })
 
 pub adopting-written : AdoptingWrittenOut
@@ -183,4 +190,4 @@ adopting-written =
 
 pub faults-held : FaultsHeld
 unfolding zeros? possible possibleTransfer possibleSecurity possibleThresholds possibleReading possibleParts possibleTrips possibleBefore keptBefore above trips
-faults-held = record { numbers = refl; adopted-ones = refl; no-others = refl; adopted-bytes = refl; byte-given = refl; none-with-reading = refl }
+faults-held = record { numbers = refl; adopted-ones = refl; no-others = refl; none-with-reading = refl; adopted-bytes = refl; byte-given = refl; both = refl }

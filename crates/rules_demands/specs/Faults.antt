@@ -50,7 +50,7 @@ pub record FaultsWrittenOut : Type 0 where
   pub told-good : (bytes : List ℕ) (version : ℕ) → (imageOf bytes ≡ Good version) ↔ ((goodImage bytes ≡ true) × (version ≡ numberAt 8 4 bytes))
   pub told-bad : (bytes : List ℕ) (reason : Reason) (i : ℕ) → (imageOf bytes ≡ Bad reason i) ↔ (firstFault bytes ≡ (reason of-record i))
 
--- Idle with received 0, and nothing else changes but the trips byte
+-- Idle with received 0, with the trips byte that thresholds and reading give, and nothing else changes
 pub record IdleWithAllElse (d taken : Device) : Type 0 where
   pub idle : taken .transfer .phase ≡ Idle
   pub received-0 : taken .transfer .received ≡ 0
@@ -63,6 +63,7 @@ pub record IdleWithAllElse (d taken : Device) : Type 0 where
   pub same-security : taken .security ≡ d .security
   pub same-thresholds : taken .thresholds ≡ d .thresholds
   pub same-reading : taken .reading ≡ d .reading
+  pub byte-due : taken .trips ≡ trips (d .thresholds) (d .reading)
 
 pub record AdoptingWrittenOut : Type 0 where
   -- one that is possible; one that T-04's library kept; one of the library before T-03
@@ -71,7 +72,7 @@ pub record AdoptingWrittenOut : Type 0 where
   pub stays : (d : Device) → possible d ≡ true → adopted d ≡ d
   pub byte-alone : (d : Device) → possible d ≡ false → possibleParts d ≡ true → adopted d ≡ d with-trips (trips (d .thresholds) (d .reading))
   pub becomes-idle : (d : Device) → possibleParts d ≡ false → IdleWithAllElse d (adopted d)
-  pub none-else : (d : Device) → adoptable d ≡ true → (possible d ≡ false) → d .trips ≡ 0
+  pub none-else : (d : Device) → adoptable d ≡ true → possible d ≡ false → (d .trips ≡ 0) × ((possibleParts d ≡ true) ⊎ (possibleBefore d ≡ true))
   pub as-many-given : (d : Device) → adopted d .transfer .contexts ≡ d .transfer .contexts
 
 -- a record in this phase with so many contexts given out, with this reason: as it was kept, and as it is taken over
@@ -88,7 +89,9 @@ pub record FaultsHeld : Type 0 where
   pub adopted-ones : map adopted (kept Failed 7 128 0 ∷ kept Failed 7 128 5 ∷ kept Idle 7 0 0 ∷ []) ≡ kept Idle 7 0 0 ∷ kept Failed 7 128 5 ∷ kept Idle 7 0 0 ∷ []
   pub no-others : map adoptable (kept Failed 0 128 0 ∷ kept Failed 7 128 6 ∷ kept Idle 7 0 1 ∷ kept Idle 7 1 0 ∷ []) ≡ false ∷ false ∷ false ∷ false ∷ []
   -- nor one in Failed without a reason that has a reading, which no library before kept
+  pub none-with-reading : map (λ new. adoptable (kept Failed 7 128 0 with-reading new)) (newReading 1 0 0 ∷ newReading 0 1 0 ∷ newReading 0 0 1 ∷ []) ≡ false ∷ false ∷ false ∷ []
   -- one with an alarm that its reading trips, from before the byte was kept; with any other byte it is none of those
   pub adopted-bytes : map (λ byte. adoptable (tripping byte)) (0 ∷ 1 ∷ 2 ∷ 3 ∷ []) ≡ true ∷ true ∷ false ∷ false ∷ []
   pub byte-given : adopted (tripping 0) ≡ tripping 1
-  pub none-with-reading : map (λ new. adoptable (kept Failed 7 128 0 with-reading new)) (newReading 1 0 0 ∷ newReading 0 1 0 ∷ newReading 0 0 1 ∷ []) ≡ false ∷ false ∷ false ∷ []
+  -- and in Failed without a reason: Idle, with the byte too
+  pub both : adopted (kept Failed 7 128 0 with-thresholds (tripping 0 .thresholds)) ≡ (kept Idle 7 0 0 with-thresholds (tripping 0 .thresholds) with-trips 1)
