@@ -113,7 +113,8 @@ pub record GivenByReading (refusal : Refusal) : Type 0 where
   pub new : Reading
   pub refused : readingResult found new .reply .verdict ≡ Refused refusal
 
--- Demand 1 of a reading: its checks decide; refused, it changes nothing; accepted, it is kept, and everything else stays. It writes no answer.
+-- Demand 1 of a reading: its checks decide; refused, it changes nothing; accepted, it is kept, the trips byte is renewed, and everything else stays. It writes no
+-- answer.
 pub record OfReading (m : Module) (new : Reading) : Type 0 where
   pub judged : readingResult m new .reply .verdict ≡ verdict (readingChecks m new)
   pub numbers : (refusal : Refusal) → readingResult m new .reply .verdict ≡ Refused refusal → Among readingNumbers refusal

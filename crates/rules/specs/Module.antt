@@ -72,7 +72,7 @@ abbrev pub tripsAfter : Thresholds → Reading → (was : ℕ) → ThresholdCall
 tripsAfter h r was GetThreshold = was
 tripsAfter h r was (SetThreshold enable spare media controller) = trips (thresholdChange h (SetThreshold enable spare media controller)) r
 
--- the module after an accepted call: each works on its part of the record, and a transfer's call on the area too
+-- the module after an accepted call: each works on its part of the record, a Set Threshold on the trips byte too, and a transfer's call on the area too
 abbrev pub change : Module → Call → Module
 change m (OnMask revision) = m
 change m OnHealth = m
