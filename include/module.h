@@ -157,7 +157,8 @@ extern "C" {
  *   38      in Failed, the reason of the first fault, MODULE_FAULT_SIZE to MODULE_FAULT_SUM; else 0
  *   39      in Failed, the number of its record, from 0 to 127; a tick writes 0 for MODULE_FAULT_SIZE; else 0
  *   40      the last reading: spare, 0 to 100
- *   41      the alarms that have tripped, by thresholds and last reading: bit 0 spare, 1 media, 2 controller temperature
+ *   41      the trips byte, the alarms that thresholds and last reading trip: bit 0 spare, 1 media temperature, 2 controller
+ *           temperature; any other byte gives R3
  *   42-43   the last reading: media temperature
  *   44-45   the last reading: controller temperature
  *   46-63   zero
@@ -218,11 +219,11 @@ int32_t module_tick(uint8_t *record, size_t record_len, const uint8_t *area, siz
 int32_t module_power(uint8_t *record, size_t record_len, const uint8_t *area, size_t area_len);
 
 /* One health reading: the spare, and two temperature words. The record keeps the last one, through every power cycle, and
- * MODULE_GET_HEALTH is answered from it. It is no host's call: make it whenever the module's own sensors have been read, in any
- * phase and any security state, then keep the record, as under "Power loss".
+ * MODULE_GET_HEALTH is answered from it and from the trips byte, which is renewed with it. It is no host's call: make it whenever
+ * the module's own sensors have been read, in any phase and any security state, then keep the record, as under "Power loss".
  *
  * Reads:   record, the length of the area; none of its bytes.
- * Writes:  record; bytes 40 and 42 to 45 may change, and no other.
+ * Writes:  record; bytes 40 to 45 may change, and no other.
  * Answers: 0; MODULE_R2, MODULE_R3 or MODULE_R4. */
 int32_t module_reading(uint8_t *record, size_t record_len, const uint8_t *area, size_t area_len, uint8_t spare, uint16_t media,
                        uint16_t controller);
@@ -234,7 +235,7 @@ int32_t module_reading(uint8_t *record, size_t record_len, const uint8_t *area, 
  * back", under "Power loss".
  *
  * Reads:   record.
- * Writes:  record, where an alarm has tripped that it does not keep, or where it is in Failed without a reason.
+ * Writes:  record, where an alarm has tripped and byte 41 is zero, or where it is in Failed without a reason.
  * Answers: 0; MODULE_R3 where the bytes are no possible record of this library nor of an older one. */
 int32_t module_adopt(uint8_t *record, size_t record_len);
 
