@@ -1,7 +1,7 @@
 title: the trips byte is kept, and stays true: renewed by each reading and each accepted Set Threshold, left by all else
 
 set-threshold enable 7 spare 20 media 0x0200 controller 0x8020          => 0
-get-health times 10             => answer 00*4 1a 02 00 00 00*5 00 00 05 00 00 00 00 00*112     # 0 of spare; 0 is above 2 below 0
+get-health times 10             => answer 00*4 1a 02 00 00 00*5 00 00 05 00 00 00 00 00*112     # spare 0 is below 20; 0 degrees is above 2 below zero
 reading spare 20 media 0x0201 controller 0x8020
 get-health times 10             => answer 00*4 1a 02 00 00 00*5 14 00 02 01 02 20 80 00*112
 # Each threshold moved past the reading, one after another.
