@@ -1,6 +1,6 @@
 -- What a C function tells its caller of a reply, and what it leaves in the record's bytes (crate device_bytes).
 -- Assumes nothing.
-use mathlib.Core.{Path._≡_, List.List}
+use mathlib.Core.{Path._≡_, Bool.{Bool, true, false}, List.List}
 use Prim.Native.Nat.{ℕ, _≤_}
 use lib.IntN.{ℤ, pos, negℤ}
 use lib.ListN.{length}
@@ -28,6 +28,12 @@ abbrev pub keptBy : Verdict → (new : Device) (bytes : List ℕ) → List ℕ
 keptBy Accepted new bytes = encodeOf new
 keptBy (Refused (R number)) new bytes = bytes
 keptBy (Refused (Status status ext)) new bytes = if status =? 11 then encodeOf new else bytes
+
+-- whether the new record is in them
+abbrev pub written : Verdict → Bool
+written Accepted = true
+written (Refused (R number)) = false
+written (Refused (Status status ext)) = status =? 11
 
 abbrev pub kept : Result → (bytes : List ℕ) → List ℕ
 kept result bytes = keptBy (result .reply .verdict) (result .after .device) bytes
