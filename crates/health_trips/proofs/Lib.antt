@@ -1,1 +1,2 @@
+pub mod Higher
 pub mod Shifted

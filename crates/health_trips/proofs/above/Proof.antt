@@ -1,22 +1,17 @@
--- `health_trips::above` meets its contract. Each return is a choice of the definition's, and its tests are the flags of the code.
+-- `health_trips::above` meets its contract. The higher word is above the other (proofs/Higher.antt).
 -- Assumes nothing.
-use Rattle.rules.specs.Health.{above}
+use mathlib.Core.Path.{_∙_}
+use Rattle.rules.specs.Tests.{_<?_}
 use borrow.Author.Needs.{needs}
-use Rattle.health_trips.proofs.above.Statement.{statement}
+use Rattle.health_trips.proofs.{Higher.higher, above.Statement.statement}
 use Rattle.health_trips.proofs.above.Tie as tie
 
 returns : tie.Need-returns
-unfolding above
-returns c = simp (c .if1 .taken)
+returns c =
+    let k = c .before .before in
+    (λ i. c .before .height .ensures i <? c .height2 .ensures i)
+    ∙ higher (k .args .word) (k .args .other) (k .fits .word .fits) (k .fits .other .fits)
 
-returns-2 : tie.Need-returns-2
-unfolding above
-returns-2 c = simp (c .before .if1 .left, c .if2 .taken)
-
-returns-3 : tie.Need-returns-3
-unfolding above
-returns-3 c = simp (c .before .if1 .left, c .if2 .left)
-
--- by search: add-result
+-- by search: height-requires, height-requires-2
 pub above-spec : {M : Type 1} → statement M
-above-spec = tie.close (tie.spec returns (λ c. search needs) returns-2 returns-3)
+above-spec = tie.close (tie.spec (λ c κs. search needs) (λ c κs. search needs) returns)
