@@ -12,19 +12,19 @@ use rules::Security;
 use rules::Thresholds;
 use rules::Transfer;
 
+// What a phase allows, as limits: a limit takes one comparison, where a clause on the phase takes two tests.
 fn possible_numbers(t: Transfer) -> bool
     ensures { λ r. ⌜ r ≡ possibleNumbers t ⌝ }
 {
     let p = t.phase;
     let n = device_phase::phase_number(p);
-    let idle = n == 0;
+    let begun = !(n == 0) as u32;
     let verifying = n == 2;
     let staged = n == 3;
-    (idle | (1 <= t.contexts))
-        & (t.received <= AREA_SIZE as u32)
-        & (!idle | (t.received == 0))
-        & (!verifying | ((1 <= t.ticks) & (t.ticks <= 8)))
-        & (verifying | (t.ticks == 0))
+    (begun <= t.contexts)
+        & (t.received <= begun * AREA_SIZE as u32)
+        & (verifying as u8 <= t.ticks)
+        & (t.ticks <= verifying as u8 * 8)
         & (staged | (t.staged == 0))
 }
 
@@ -33,8 +33,7 @@ fn possible_fault(t: Transfer) -> bool
 {
     let p = t.phase;
     let failed = device_phase::phase_number(p) == 4;
-    (!failed | ((1 <= t.reason) & (t.reason <= 5) & (t.faulty <= 127)))
-        & (failed | ((t.reason == 0) & (t.faulty == 0)))
+    (t.reason <= 5) & ((1 <= t.reason) == failed) & (t.faulty <= failed as u8 * 127)
 }
 
 fn possible_transfer(t: Transfer) -> bool
