@@ -51,19 +51,19 @@ pub fn fresh() -> Device
     }
 }
 
-// R2 and R3, which every event can give.
+// R2 and R3, which every event can give. It has one way out, so that it is compiled into its callers and the record need not be put together for it.
 pub fn judge_event(d: Device, area: &[u8]) -> Verdict
     ensures { λ r. ⌜ r ≡ verdict (eventChecks (moduleOf d (now (area .entry)))) ⌝ }
 {
     let size = area.len() == AREA_SIZE;
     let possible = device_possible::possible(d);
-    if !size {
-        return Verdict::Refused(Refusal::R { number: 2 });
+    let number = 2 + size as u8;
+    let accepted = size & possible;
+    if accepted {
+        Verdict::Accepted
+    } else {
+        Verdict::Refused(Refusal::R { number })
     }
-    if !possible {
-        return Verdict::Refused(Refusal::R { number: 3 });
-    }
-    Verdict::Accepted
 }
 
 // What a refusal by a status leaves: the record as it was, but for status 11, which adds one to attempts. A possible record's attempts leave room for it.

@@ -29,9 +29,11 @@ lowest n e a = and-step e (bit 0 a + n * 2) ∙ (λ i. bitAnd (e / 2) (rest a i)
     rest : (a : Bool) → (bit 0 a + n * 2) / 2 ≡ n
     rest true = omega arith
     rest false = omega arith
+
     first : (a : Bool) → (bit 0 a + n * 2) % 2 ≡ bit 0 a
     first true = omega arith
     first false = omega arith
+
     least : (k : ℕ) (a : Bool) → k < 2 → min k (bit 0 a) ≡ bit 0 (eqb k 1 && a)
     least zero true h = refl
     least zero false h = refl
@@ -59,8 +61,10 @@ enabled e a b c =
     summed false true false = refl
     summed false false true = refl
     summed false false false = refl
+
     whole : e ≡ e / 1
     whole = omega arith
+
     quarter : e / 2 / 2 ≡ e / 4
     quarter = omega arith
 
