@@ -11,13 +11,14 @@ use rules::Security;
 use rules::Thresholds;
 use rules::Transfer;
 
-// Bytes 46 to 63 are zero, by three numbers and not byte by byte.
+// Bytes 46 to 63 are zero, by three numbers and not byte by byte; of one width, so that the compiler puts them together with those of `zero_after`. Two of them
+// share bytes 56 to 61.
 fn zero_between(s: &[u8]) -> bool
     requires { ⌜ length (now s) ≡ encodedSize ⌝ }
     ensures { λ r. ⌜ r ≡ zeros? (take 18 (drop 46 (now (s .entry)))) ⌝ }
 {
-    (bytes_numbers::half(s, 46) == 0)
-        & (bytes_numbers::long(s, 48) == 0)
+    (bytes_numbers::long(s, 46) == 0)
+        & (bytes_numbers::long(s, 54) == 0)
         & (bytes_numbers::long(s, 56) == 0)
 }
 
