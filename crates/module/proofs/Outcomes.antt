@@ -102,6 +102,11 @@ module _ (m : Module) (changed : Device) (rows : List Check) where
       → Promised came o (m .area) []
   as-changed j e k f = happens Accepted j e k (record { reply-is = refl; device-is = f; area-is = refl; answer-is = refl })
 
+  -- the same, where Accepted is said anew
+  pub as-said : {o : Outcome} {v : Verdict} {device : Device} → v ≡ verdict rows → v ≡ Accepted → o ≡ given device Accepted 0 → device ≡ changed
+      → Promised came o (m .area) []
+  as-said {device = device} j e k f = as-changed j e (k ∙ ap (λ (x : Verdict). given device x 0) (sym e)) f
+
   pub as-left : {o : Outcome} {v : Verdict} (refusal : Refusal) → v ≡ verdict rows → v ≡ Refused refusal → o ≡ given (m .device) v 0
       → Promised came o (m .area) []
   as-left refusal j e k =

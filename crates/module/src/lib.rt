@@ -118,7 +118,7 @@ fn judge_reading(d: Device, area: &[u8], new: Reading) -> Verdict
     }
 }
 
-// The record keeps the new reading, and the trips byte that it gives.
+// The record keeps the new reading, and the trips byte that it gives. Accepted is said anew, so that who is told need not look again.
 pub fn reading(d: Device, area: &[u8], new: Reading) -> Outcome
     ensures { λ r. ⌜ Promised (readingResult (moduleOf d (now (area .entry))) new) r (now (area .entry)) [] ⌝ }
 {
@@ -126,7 +126,7 @@ pub fn reading(d: Device, area: &[u8], new: Reading) -> Outcome
     match verdict {
         Verdict::Accepted => {
             let kept = device_record::renewed(Device { reading: new, ..d });
-            result(kept, verdict, 0)
+            result(kept, Verdict::Accepted, 0)
         }
         Verdict::Refused(_) => result(d, verdict, 0),
     }

@@ -1,7 +1,7 @@
 -- `module::reading` meets its contract. The verdict settles the result of the definition (proofs/Outcomes.antt).
 -- Assumes nothing.
 use Rattle.rules.{specs.Record.moduleOf, specs.Module.{kept, readingChecks, readingResult}}
-use Rattle.module.proofs.{Outcomes.{as-changed, as-left}, reading.Statement.statement}
+use Rattle.module.proofs.{Outcomes.{as-said, as-left}, reading.Statement.statement}
 use borrow.Author.Needs.{needs}
 use Rattle.module.proofs.reading.Tie as tie
 
@@ -15,7 +15,7 @@ returns c =
     let j = k .before .before in
     let a = j .before .before .args in
     let m = moduleOf (a .d) (a .area .now) in
-    as-changed m (kept m (a .new) .device) (readingChecks m (a .new)) (j .judge-reading .ensures) (k .enum-told .given .1) (c .result .ensures) (c .before .renewed .ensures)
+    as-said m (kept m (a .new) .device) (readingChecks m (a .new)) (j .judge-reading .ensures) (k .enum-told .given .1) (c .result .ensures) (c .before .renewed .ensures)
 
 returns-2 : tie.Need-returns-2
 unfolding readingResult
