@@ -1,7 +1,8 @@
 -- Machines and histories, which know no module.
 pub mod Joining
 pub mod Swapping
--- The module's histories.
+-- The cabinet's histories.
+pub mod Places
 pub mod Struck
 pub mod KindOf
 pub mod Gate
@@ -12,10 +13,10 @@ pub mod Unbroken
 pub mod Honest
 pub mod Order
 pub mod Turn
+pub mod Again
 pub mod Pieces
 pub mod Stage
 pub mod Due
 pub mod Waits
-pub mod Again
 -- Demand 3.
 pub mod Demand3

@@ -11,7 +11,7 @@ pub mod Told
 pub mod Agree
 pub mod Frozen
 pub mod Area
--- The module past its R numbers, in two parts; what every event keeps.
+-- The cabinet past its R numbers, seen from a module, in two parts; what every event keeps.
 pub mod Split
 pub mod Through
 pub mod Facts
@@ -37,3 +37,7 @@ pub mod Reserved
 pub mod Places
 pub mod Compared
 pub mod TripsKept
+-- T-09: what one module has of the other.
+pub mod Apart
+pub mod Alike
+pub mod Unseen

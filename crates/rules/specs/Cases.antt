@@ -1,5 +1,5 @@
--- Document 01, "Cases for the bench": those marked P, as rows of one list; and document 02, T-04: function 1 and readings; T-05: reserved means zero. That every
--- row holds is the one claim of proofs/page/Claim.antt.
+-- Document 01, "Cases for the bench": those marked P, as rows of one list; and document 02, T-04: function 1 and readings; T-05: reserved means zero; T-09: two
+-- modules. That every row holds is the one claim of proofs/page/Claim.antt.
 -- Assumes nothing.
 use Prim.Native.Nat.{ℕ, zero, suc, _+_}
 use mathlib.Core.{Bool.{Bool, true, false, not, _&&_}, List.{List, [], _∷_, _++_}}
@@ -7,29 +7,29 @@ use lib.ListN.{length, drop, replicate}
 use Rattle.rules.specs.Tests.{if_then_else_, _=?_}
 use Rattle.rules.specs.Bytes.{le, zeros, same?}
 use Rattle.rules.specs.Numbers.{areaSize}
-use Rattle.rules.specs.With.{_with-transfer_, _with-phase_, _with-contexts_, _with-received_}
-use Rattle.rules.specs.Record.{_is_, fresh, Module, moduleOf}
+use Rattle.rules.specs.With.{_with-transfer_, _with-phase_, _with-current_, _with-received_}
+use Rattle.rules.specs.Record.{_is_, fresh, freshCabinet, Whole, wholeOf}
 use Rattle.rules.specs.Refusals.{refused?}
 use Rattle.rules.specs.Health.{newReading}
-use Rattle.rules.specs.Module.{Result, Event, call, tick, power, reading, step}
+use Rattle.rules.specs.Cabinet.{Result, Event, call, tick, power, reading, step}
 use Rattle.rules.specs.Replay.{replayStart}
-use Rattle.rules.specs.declared.{Phase.the-variants.{Receiving, Staged, Failed}, Refusal.the-variants.{R, Status}, Verdict.Verdict, Verdict.the-variants.{Accepted, Refused}, Reading.Reading}
+use Rattle.rules.specs.declared.{Phase.the-variants.{Receiving, Staged, Failed}, Refusal.the-variants.{R, Status}, Verdict.Verdict, Verdict.the-variants.{Accepted, Refused}, Reading.Reading, Device.Device}
 
--- What a case does: it makes a call and expects these answer bytes, lets ticks pass or power cycle, or brings a health reading, which is taken, or gives this R
--- number.
+-- What a case does: it makes a call and expects these answer bytes, lets ticks pass or a module's power cycle, or brings a health reading, which is taken; or an event
+-- gives this R number.
 infix 68 _gets_
 pub data Deed : Type 0 where
   _gets_ : Event → List ℕ → Deed
   passing : (ticks : ℕ) → Deed
-  powering : Deed
-  taken : (new : Reading) → Deed
-  gives-R : (number : ℕ) (new : Reading) → Deed
+  powering : (named : ℕ) → Deed
+  taken : (named : ℕ) (new : Reading) → Deed
+  gives-R : (number : ℕ) → Event → Deed
 
--- A row: the module that the case begins with; what is done; and what the case says of record and area in the end.
+-- A row: the cabinet that the case begins with; what is done; and what the case says of record and area in the end.
 pub record Case : Type 0 where
-  pub from : Module
+  pub from : Whole
   pub deeds : List Deed
-  pub ends : Module → Bool
+  pub ends : Whole → Bool
 
 -- Every call is lent 132 bytes of 255, so that an answer byte left unwritten, or one written past the answer, shows.
 abbrev buffer : List ℕ
@@ -40,9 +40,9 @@ abbrev as-expected : Result → (expected : List ℕ) → Bool
 as-expected result expected =
     (result .reply .length =? length expected) && same? (result .answer) (expected ++ drop (length expected) buffer)
 
-abbrev after-ticks : ℕ → Module → Module
-after-ticks zero m = m
-after-ticks (suc ticks) m = after-ticks ticks (step m tick .after)
+abbrev after-ticks : ℕ → Whole → Whole
+after-ticks zero w = w
+after-ticks (suc ticks) w = after-ticks ticks (step w tick .after)
 
 -- the verdict is this R number
 abbrev by-R : (number : ℕ) → Verdict → Bool
@@ -50,13 +50,14 @@ by-R number Accepted = false
 by-R number (Refused (R given)) = given =? number
 by-R number (Refused (Status status ext)) = false
 
-abbrev holdsFrom : Module → List Deed → (Module → Bool) → Bool
-holdsFrom m [] ends = ends m
-holdsFrom m ((event gets expected) ∷ deeds) ends = as-expected (step m event) expected && holdsFrom (step m event .after) deeds ends
-holdsFrom m (passing ticks ∷ deeds) ends = holdsFrom (after-ticks ticks m) deeds ends
-holdsFrom m (powering ∷ deeds) ends = holdsFrom (step m power .after) deeds ends
-holdsFrom m (taken new ∷ deeds) ends = not (refused? (step m (reading new) .reply .verdict)) && holdsFrom (step m (reading new) .after) deeds ends
-holdsFrom m (gives-R number new ∷ deeds) ends = by-R number (step m (reading new) .reply .verdict) && holdsFrom (step m (reading new) .after) deeds ends
+abbrev holdsFrom : Whole → List Deed → (Whole → Bool) → Bool
+holdsFrom w [] ends = ends w
+holdsFrom w ((event gets expected) ∷ deeds) ends = as-expected (step w event) expected && holdsFrom (step w event .after) deeds ends
+holdsFrom w (passing ticks ∷ deeds) ends = holdsFrom (after-ticks ticks w) deeds ends
+holdsFrom w (powering named ∷ deeds) ends = holdsFrom (step w (power named) .after) deeds ends
+holdsFrom w (taken named new ∷ deeds) ends =
+    not (refused? (step w (reading named new) .reply .verdict)) && holdsFrom (step w (reading named new) .after) deeds ends
+holdsFrom w (gives-R number event ∷ deeds) ends = by-R number (step w event .reply .verdict) && holdsFrom (step w event .after) deeds ends
 
 abbrev pub holds : Case → Bool
 holds c = holdsFrom (c .from) (c .deeds) (c .ends)
@@ -66,9 +67,12 @@ abbrev pub failing : (number : ℕ) → List Case → List ℕ
 failing number [] = []
 failing number (c ∷ cases) = (if holds c then [] else number ∷ []) ++ failing (number + 1) cases
 
--- calls by host 1 at revision 2, but where a revision is named; a Send, a Finish and a Query with context 1
+-- calls by host 1 to module 0 at revision 2, but where a revision or a module is named; a Send, a Finish and a Query with context 1
 abbrev at-revision : (revision index : ℕ) (request : List ℕ) → Event
-at-revision revision index request = call 1 revision index request buffer
+at-revision revision index request = call 1 0 revision index request buffer
+
+abbrev ask-module : (named index : ℕ) (request : List ℕ) → Event
+ask-module named index request = call 1 named 2 index request buffer
 
 abbrev ask : (index : ℕ) (request : List ℕ) → Event
 ask index request = at-revision 2 index request
@@ -102,10 +106,16 @@ status n = n ∷ 0 ∷ 0 ∷ 0 ∷ []
 abbrev started : List ℕ
 started = status 0 ++ le 4 1
 
--- a module that has received so many bytes, in the transfer with context 1; its area is full of 7
-abbrev receiving : ℕ → Module
-receiving n =
-    moduleOf (fresh with-transfer (fresh .transfer with-phase Receiving with-contexts 1 with-received n)) (replicate areaSize 7)
+-- a module that has received so many bytes, in the transfer with context 1; a cabinet of which module 0 is such a one, with an area full of 7; and one of which
+-- both are, which is not possible
+abbrev received : ℕ → Device
+received n = fresh with-transfer (fresh .transfer with-phase Receiving with-current 1 with-received n)
+
+abbrev receiving : ℕ → Whole
+receiving n = wholeOf (record { contexts = 1; first = received n; second = fresh }) (replicate areaSize 7)
+
+abbrev both-receiving : Whole
+both-receiving = wholeOf (record { contexts = 1; first = received 0; second = received 0 }) (replicate areaSize 7)
 
 -- one record, version 1: number 0 of 1, the version, the payload, and the last bytes
 abbrev one-record : (payload last : List ℕ) → List ℕ
@@ -130,30 +140,34 @@ abbrev health : (first : List ℕ) → List ℕ
 health first = first ++ zeros 112
 
 -- what a case may say of the end
-abbrev failed : Module → Bool
-failed m = m .device .transfer .phase is Failed
+abbrev failed : Whole → Bool
+failed w = w .cabinet .first .transfer .phase is Failed
 
-abbrev staged-1 : Module → Bool
-staged-1 m = m .device .transfer .phase is Staged && m .device .transfer .staged =? 1
+abbrev staged-1 : Whole → Bool
+staged-1 w = w .cabinet .first .transfer .phase is Staged && w .cabinet .first .transfer .staged =? 1
 
-abbrev received-all : Module → Bool
-received-all m =
-    m .device .transfer .received =? 16384 && same? (m .area) (replicate 16380 7 ++ (1 ∷ 2 ∷ 3 ∷ 4 ∷ []))
+abbrev received-all : Whole → Bool
+received-all w =
+    w .cabinet .first .transfer .received =? 16384 && same? (w .area) (replicate 16380 7 ++ (1 ∷ 2 ∷ 3 ∷ 4 ∷ []))
 
 -- no byte of a piece was taken: so many bytes are received, as before, and the area is full of 7
-abbrev received-still : ℕ → Module → Bool
-received-still n m = m .device .transfer .received =? n && same? (m .area) (replicate areaSize 7)
+abbrev received-still : ℕ → Whole → Bool
+received-still n w = w .cabinet .first .transfer .received =? n && same? (w .area) (replicate areaSize 7)
 
-abbrev case-from : Module → List Deed → (Module → Bool) → Case
+-- both modules Staged, with versions 1 and 1
+abbrev both-staged : Whole → Bool
+both-staged w = w .cabinet .first .transfer .staged =? 1 && w .cabinet .second .transfer .staged =? 1
+
+abbrev case-from : Whole → List Deed → (Whole → Bool) → Case
 case-from from deeds ends = record { from = from; deeds = deeds; ends = ends }
 
--- a case that begins with a fresh module and an area of zeros
-abbrev case-to : List Deed → (Module → Bool) → Case
+-- a case that begins with two fresh modules and an area of zeros
+abbrev case-to : List Deed → (Whole → Bool) → Case
 case-to deeds ends = case-from replayStart deeds ends
 
 -- one that says nothing of the end
 abbrev case : List Deed → Case
-case deeds = case-to deeds (λ m. true)
+case deeds = case-to deeds (λ w. true)
 
 abbrev pub cases : List Case
 cases =
@@ -192,11 +206,11 @@ cases =
     -- off, nor what is at its threshold
     ∷ case
     (ask 17 (0x00 ∷ 0x00 ∷ 20 ∷ 0x00 ∷ 0x05 ∷ 0x01 ∷ 0x80 ∷ []) gets status 0
-    ∷ taken (newReading 19 0x0501 0x8000)
+    ∷ taken 0 (newReading 19 0x0501 0x8000)
     ∷ ask 1 [] gets health (0 ∷ 0 ∷ 0 ∷ 0 ∷ 0x1A ∷ 0x02 ∷ 0 ∷ 0 ∷ 0 ∷ 0 ∷ 0 ∷ 0 ∷ 0 ∷ 19 ∷ 0 ∷ 0x00 ∷ 0x01 ∷ 0x05 ∷ 0x00 ∷ 0x80 ∷ [])
     ∷ ask 17 (0x07 ∷ 0x00 ∷ 20 ∷ 0x00 ∷ 0x05 ∷ 0x01 ∷ 0x80 ∷ []) gets status 0
     ∷ ask 1 [] gets health (0 ∷ 0 ∷ 0 ∷ 0 ∷ 0x1A ∷ 0x02 ∷ 0 ∷ 0 ∷ 0 ∷ 0 ∷ 0 ∷ 0 ∷ 0 ∷ 19 ∷ 0 ∷ 0x07 ∷ 0x01 ∷ 0x05 ∷ 0x00 ∷ 0x80 ∷ [])
-    ∷ taken (newReading 20 0x0500 0x8001)
+    ∷ taken 0 (newReading 20 0x0500 0x8001)
     ∷ ask 1 [] gets health (0 ∷ 0 ∷ 0 ∷ 0 ∷ 0x1A ∷ 0x02 ∷ 0 ∷ 0 ∷ 0 ∷ 0 ∷ 0 ∷ 0 ∷ 0 ∷ 20 ∷ 0 ∷ 0x00 ∷ 0x00 ∷ 0x05 ∷ 0x01 ∷ 0x80 ∷ [])
     ∷ [])
     -- function 1 with a request byte: status 3, 132 bytes; at revision 3: status 1, 4 bytes
@@ -205,11 +219,11 @@ cases =
     -- reading is R4", and the last one stays; "power cycles keep the last one"
     ∷ case
     (ask 17 (0x06 ∷ 0x00 ∷ 0 ∷ 0x00 ∷ 0x00 ∷ 0x00 ∷ 0x80 ∷ []) gets status 0
-    ∷ taken (newReading 100 0x8000 0x0000)
+    ∷ taken 0 (newReading 100 0x8000 0x0000)
     ∷ ask 1 [] gets health (0 ∷ 0 ∷ 0 ∷ 0 ∷ 0x1A ∷ 0x02 ∷ 0 ∷ 0 ∷ 0 ∷ 0 ∷ 0 ∷ 0 ∷ 0 ∷ 100 ∷ 0 ∷ 0x00 ∷ 0x00 ∷ 0x80 ∷ 0x00 ∷ 0x00 ∷ [])
-    ∷ taken (newReading 0 0x0001 0x8001)
-    ∷ gives-R 4 (newReading 101 0x0000 0x0000)
-    ∷ powering
+    ∷ taken 0 (newReading 0 0x0001 0x8001)
+    ∷ gives-R 4 (reading 0 (newReading 101 0x0000 0x0000))
+    ∷ powering 0
     ∷ ask 1 [] gets health (0 ∷ 0 ∷ 0 ∷ 0 ∷ 0x1A ∷ 0x02 ∷ 0 ∷ 0 ∷ 0 ∷ 0 ∷ 0 ∷ 0 ∷ 0 ∷ 0 ∷ 0 ∷ 0x02 ∷ 0x01 ∷ 0x00 ∷ 0x01 ∷ 0x80 ∷ [])
     ∷ [])
     -- document 02, T-05: a Finish with a nonzero reserved byte while Idle: 3, not 7/1; and each of the three while Receiving, where it stays
@@ -228,4 +242,45 @@ cases =
     ∷ ask 2 [] gets zeros 12
     ∷ ask 17 (0x07 ∷ 0x00 ∷ 20 ∷ 0x00 ∷ 0x05 ∷ 0x01 ∷ 0x80 ∷ []) gets status 0
     ∷ [])
+    -- document 02, T-09: "area busy is status 8, after 7/1 and 7/2": while module 0 is Receiving and while it is Verifying; "The area is free for the other as soon
+    -- as neither is", and the numbers are shared
+    ∷ case
+    (start gets started
+    ∷ start gets (le 2 7 ++ le 2 1 ++ zeros 4)
+    ∷ ask-module 1 13 [] gets (status 8 ++ zeros 4)
+    ∷ finish gets status 0
+    ∷ passing 7
+    ∷ ask-module 1 13 [] gets (status 8 ++ zeros 4)
+    ∷ passing 1
+    ∷ ask-module 1 13 [] gets (status 0 ++ le 4 2)
+    ∷ start gets (status 8 ++ zeros 4)
+    ∷ powering 0
+    ∷ start gets (status 8 ++ zeros 4)
+    ∷ powering 1
+    ∷ start gets (status 0 ++ le 4 3)
+    ∷ [])
+    -- a Staged module answers 7/2 while the other has the area; each is staged by its own transfer, and a tick reaches both
+    ∷ case-to
+    (staging (one-record (zeros 112) (0x01 ∷ 0x00 ∷ 0x01 ∷ 0x00 ∷ []))
+    ++ (ask-module 1 13 [] gets (status 0 ++ le 4 2)
+    ∷ start gets (le 2 7 ++ le 2 2 ++ zeros 4)
+    ∷ ask-module 1 14 (le 4 2 ++ le 4 0 ++ le 4 128 ++ one-record (zeros 112) (0x01 ∷ 0x00 ∷ 0x01 ∷ 0x00 ∷ [])) gets status 0
+    ∷ ask-module 1 15 (zeros 4 ++ le 4 2) gets status 0
+    ∷ passing 8
+    ∷ ask-module 1 16 (le 4 2) gets (status 0 ++ le 8 1)
+    ∷ query gets (status 0 ++ le 8 1)
+    ∷ ask-module 1 16 (le 4 1) gets (le 2 7 ++ le 2 1 ++ zeros 8)
+    ∷ []))
+    both-staged
+    -- "module over 1 is R5, before R3, for a power cycle or reading too"; two modules Receiving are R3, to a tick too
+    ∷ case-from both-receiving
+    (gives-R 5 (ask-module 2 12 [])
+    ∷ gives-R 5 (power 2)
+    ∷ gives-R 5 (reading 2 (newReading 101 0x0000 0x0000))
+    ∷ gives-R 3 (ask-module 1 12 [])
+    ∷ gives-R 3 (power 1)
+    ∷ gives-R 3 (reading 1 (newReading 101 0x0000 0x0000))
+    ∷ gives-R 3 tick
+    ∷ [])
+    (λ w. true)
     ∷ []

@@ -6,10 +6,10 @@ use mathlib.Core.{Path._≡_, Logic.{_⊎_, _↔_}, Bool.{Bool, true, false, _&&
 use lib.ListN.{length}
 use Rattle.rules.specs.Tests.{_=?_}
 use Rattle.rules.specs.Numbers.{areaSize, lastContext, verification}
-use Rattle.rules.specs.Record.{_is_, fresh, given, possible, Module, moduleOf}
+use Rattle.rules.specs.Record.{_is_, freshCabinet, possibleCabinet, Whole, wholeOf, deviceOf}
 use Rattle.rules.specs.Fault.{imageOf}
 use Rattle.rules.specs.Transfer.{receivedBytes}
-use Rattle.rules.specs.Module.{Event, tick, step}
+use Rattle.rules.specs.Cabinet.{Event, tick, step}
 use Rattle.rules.specs.History.{historyOf, end, Same, only, All, _and-then_}
 use Rattle.rules.specs.Transfers.{machine, Exchange, History, Started, Finished, kindOf, none, AllInOrder, AllByStarter}
 use Rattle.rules.specs.Hosts.{Honest}
@@ -18,11 +18,11 @@ use Rattle.rules.specs.Moves.{moved, ByMoves, rearranged, Unbroken}
 use Rattle.rules.specs.declared.{Refusal.the-variants.{R, Status}, Verdict.Verdict, Verdict.the-variants.{Accepted, Refused}, Image.the-variants.Good}
 use Rattle.rules.specs.declared.Phase.the-variants.{Staged}
 
--- "Begin with a fresh module"; its area is any of the right size.
-abbrev pub freshWith : (area : List ℕ) → Module
-freshWith area = moduleOf fresh area
+-- "Begin with a fresh module"; document 02, T-09: "both modules begin fresh". The area is any of the right size.
+abbrev pub freshWith : (area : List ℕ) → Whole
+freshWith area = wholeOf freshCabinet area
 
--- "Strike out the refused calls except wrong passphrases." R numbers are refusals; a reading that one refuses is struck
+-- "Strike out the refused calls except wrong passphrases." R numbers are refusals; a reading or a power cycle that one refuses is struck
 -- out too, though it is no call (docs/DECISIONS.md, B69). A wrong passphrase is status 11.
 abbrev pub remains : Verdict → Bool
 remains Accepted = true
@@ -34,10 +34,10 @@ abbrev pub struck : History → History
 struck h = only (λ x. remains (x .got .reply .verdict)) h
 
 -- "What remains gives the same answers and the same end."
-abbrev pub StrikeOut : Module → History → Type 0
+abbrev pub StrikeOut : Whole → History → Type 0
 StrikeOut m h = Same machine m h (struck h)
 
--- "Its transfers stand one after another,"
+-- "Its transfers stand one after another,": those of both modules in one line
 abbrev pub OneAfterAnother : History → Type 0
 OneAfterAnother h = AllInOrder none h
 
@@ -45,96 +45,101 @@ OneAfterAnother h = AllInOrder none h
 abbrev pub EachFromOneHost : History → Type 0
 EachFromOneHost h = AllByStarter none h
 
--- the module as the transfer's Finish finds it
-abbrev pub atFinish : Module → {h : History} → FinishedIn h → Module
+-- the cabinet as the transfer's Finish finds it
+abbrev pub atFinish : Whole → {h : History} → FinishedIn h → Whole
 atFinish m f = end machine m (f .before and-then f .start ∷ f .between)
 
--- the received bytes of the area
-abbrev pub receivedIn : Module → List ℕ
-receivedIn m = receivedBytes (m .device .transfer) (m .area)
+-- a module's received bytes of the area
+abbrev pub receivedIn : (named : ℕ) → Whole → List ℕ
+receivedIn named w = receivedBytes (deviceOf named (w .cabinet) .transfer) (w .area)
 
 -- they are the pieces of the transfer's own Sends, joined in order
-abbrev pub Received : Module → {h : History} → FinishedIn h → Type 0
-Received m f = receivedIn (atFinish m f) ≡ pieces (ownSends (f .context) (f .between))
+abbrev pub Received : Whole → {h : History} → FinishedIn h → Type 0
+Received m f = receivedIn (f .named) (atFinish m f) ≡ pieces (ownSends (f .context) (f .between))
 
 -- Two senders, one transfer: at a transfer's accepted Finish the received bytes of the area are exactly the pieces of its own Sends, joined in order; every
 -- one of those Sends was made by the host that made its Start, and so was the Finish. No byte of another sender is among them.
-pub record OwnPieces (m : Module) {h : History} (f : FinishedIn h) : Type 0 where
+pub record OwnPieces (m : Whole) {h : History} (f : FinishedIn h) : Type 0 where
   pub received : Received m f
   pub one-sender : All (λ x. SentBy (f .starter) (kindOf x)) (ownSends (f .context) (f .between))
   pub one-finisher : f .finisher ≡ f .starter
 
--- "All but its own Sends between a transfer's Start and its accepted Finish can move, in its own order, before that Start, and no answer or end changes."
-abbrev pub Move : Module → History → Type 0
+-- "All but its own Sends between a transfer's Start and its accepted Finish can move, in its own order, before that Start, and no answer or end changes." Document
+-- 02, T-09: "the other module's events may move before the Start too": they are among what stands between.
+abbrev pub Move : Whole → History → Type 0
 Move m h = (f : FinishedIn h) → Same machine m h (moved f)
 
 -- The same for all finished transfers at once: the rearranged history is made by such moves and nothing else, every finished transfer of h stands in it as
 -- one unbroken Start, Sends, Finish, and no answer or end changes.
-pub record AllMoved (m : Module) (h : History) : Type 0 where
+pub record AllMoved (m : Whole) (h : History) : Type 0 where
   pub by-moves : ByMoves h (rearranged h)
   pub unbroken : (f : FinishedIn h) → Unbroken (rearranged h) f
   pub same : Same machine m h (rearranged h)
 
--- whether the module is Staged with this version
-abbrev pub stagedWith : (version : ℕ) → Module → Bool
-stagedWith version m = m .device .transfer .phase is Staged && m .device .transfer .staged =? version
+-- whether a module is Staged with this version
+abbrev pub stagedWith : (named version : ℕ) → Whole → Bool
+stagedWith named version w =
+    deviceOf named (w .cabinet) .transfer .phase is Staged && deviceOf named (w .cabinet) .transfer .staged =? version
 
--- The event stages the version: the module was not Staged with it before, and is afterwards.
-pub record Stages (m : Module) (event : Event) (version : ℕ) : Type 0 where
-  pub not-before : stagedWith version m ≡ false
-  pub afterwards : stagedWith version (step m event .after) ≡ true
+-- The event stages the version in the module: it was not Staged with it before, and is afterwards.
+pub record Stages (named : ℕ) (w : Whole) (event : Event) (version : ℕ) : Type 0 where
+  pub not-before : stagedWith named version w ≡ false
+  pub afterwards : stagedWith named version (step w event .after) ≡ true
 
--- A staging is due: the history has an accepted, non-abort Finish of a transfer whose pieces, joined, are a good image of this version; after it come
--- exactly seven ticks, no power cycle, and any other calls and readings.
-pub record Due (h : History) (version : ℕ) : Type 0 where
+-- A staging is due in a module: the history has an accepted, non-abort Finish of a transfer of it whose pieces, joined, are a good image of this version; after it
+-- come exactly seven ticks, no power cycle of that module, and any other events. Document 02, T-09: "the staging clause's power cycle is the transfer's own module's."
+pub record Due (named : ℕ) (h : History) (version : ℕ) : Type 0 where
   pub transfer : FinishedIn h
+  pub of-module : transfer .named ≡ named
   pub no-abort : transfer .flag ≡ 0
   pub good : imageOf (pieces (ownSends (transfer .context) (transfer .between))) ≡ Good version
   pub seven-ticks : ticksIn (transfer .since) ≡ 7
-  pub no-power-cycle : powerCycles (transfer .since) ≡ 0
+  pub no-power-cycle : powerCycles named (transfer .since) ≡ 0
 
 -- "exactly when a good image's accepted, non-abort Finish is followed by eight ticks before any power cycle": the next event after the history h stages a
--- version exactly when it is a tick, the eighth, and that staging is due.
-abbrev pub StagedExactly : Module → History → Type 0
-StagedExactly m h = (event : Event) (version : ℕ) → Stages (end machine m h) event version ↔ ((event ≡ tick) × Due (struck h) version)
+-- version in a module exactly when it is a tick, the eighth, and that staging is due.
+abbrev pub StagedExactly : Whole → History → Type 0
+StagedExactly m h =
+    (named : ℕ) → named ≤ 1 → (event : Event) (version : ℕ)
+    → Stages named (end machine m h) event version ↔ ((event ≡ tick) × Due named (struck h) version)
 
--- What is staged is what was sent: after the eighth tick the received bytes of the area are still the pieces of the transfer's own Sends, joined in order.
-abbrev pub StagedAsSent : Module → History → Type 0
+-- What is staged is what was sent: after the eighth tick the module's received bytes of the area are still the pieces of the transfer's own Sends, joined in order.
+abbrev pub StagedAsSent : Whole → History → Type 0
 StagedAsSent m h =
-    (version : ℕ) (due : Due (struck h) version)
-    → receivedIn (step (end machine m h) tick .after) ≡ pieces (ownSends (due .transfer .context) (due .transfer .between))
+    (named version : ℕ) (due : Due named (struck h) version)
+    → receivedIn named (step (end machine m h) tick .after) ≡ pieces (ownSends (due .transfer .context) (due .transfer .between))
 
--- "An image is staged once": between an exchange that stages and a later event that stages there is a power cycle. That one Finish never stages twice is in
--- `StagedExactly`: what stages is the eighth tick after it, before any power cycle.
-abbrev pub StagedOnce : Module → History → Type 0
+-- "An image is staged once": between an exchange that stages in a module and a later event that does there is a power cycle of that module. That one Finish never
+-- stages twice is in `StagedExactly`: what stages is the eighth tick after it, before any power cycle.
+abbrev pub StagedOnce : Whole → History → Type 0
 StagedOnce m h =
-    (before between : History) (x : Exchange) (event : Event) (first second : ℕ)
+    (named : ℕ) → named ≤ 1 → (before between : History) (x : Exchange) (event : Event) (first second : ℕ)
     → h ≡ before and-then x ∷ between
-    → Stages (end machine m before) (x .event) first
-    → Stages (end machine m h) event second
-    → 1 ≤ powerCycles between
+    → Stages named (end machine m before) (x .event) first
+    → Stages named (end machine m h) event second
+    → 1 ≤ powerCycles named between
 
--- One image waits at a time: between an accepted, non-abort Finish and a later Start there are eight ticks or a power cycle. As each Finish has a Start of its
--- own (`OneAfterAnother`), no two Finishes share a staging.
+-- One image waits at a time, in both modules together: between an accepted, non-abort Finish and a later Start, of whichever module, there are eight ticks or a
+-- power cycle of the Finish's module. As each Finish has a Start of its own (`OneAfterAnother`), no two Finishes share a staging.
 abbrev pub OneWaits : History → Type 0
 OneWaits h =
-    (before between since : History) (x y : Exchange) (host other finished started : ℕ)
+    (before between since : History) (x y : Exchange) (named another host other finished started : ℕ)
     → h ≡ before and-then x ∷ between and-then y ∷ since
-    → kindOf x ≡ Finished host finished 0
-    → kindOf y ≡ Started other started
-    → (verification ≤ ticksIn between) ⊎ (1 ≤ powerCycles between)
+    → kindOf x ≡ Finished named host finished 0
+    → kindOf y ≡ Started another other started
+    → (verification ≤ ticksIn between) ⊎ (1 ≤ powerCycles named between)
 
--- "Numbers outlive power cycles and are never given again": of two Starts of a history the later is answered the higher number.
+-- "Numbers outlive power cycles and are never given again": of two Starts of a history, of whichever modules, the later is answered the higher number.
 abbrev pub NeverAgain : History → Type 0
 NeverAgain h =
-    (before between since : History) (x y : Exchange) (host other first second : ℕ)
+    (before between since : History) (x y : Exchange) (named another host other first second : ℕ)
     → h ≡ before and-then x ∷ between and-then y ∷ since
-    → kindOf x ≡ Started host first
-    → kindOf y ≡ Started other second
+    → kindOf x ≡ Started named host first
+    → kindOf y ≡ Started another other second
     → first < second
 
--- Demand 3, for a module m and a history h from it.
-pub record Demand3Of (m : Module) (h : History) : Type 0 where
+-- Demand 3, for a cabinet m and a history h from it.
+pub record Demand3Of (m : Whole) (h : History) : Type 0 where
   pub strike-out : StrikeOut m h
   pub one-after-another : OneAfterAnother (struck h)
   pub each-from-one-host : EachFromOneHost (struck h)
@@ -162,14 +167,14 @@ DemandOfWhatRemains =
     → Honest (struck (historyOf machine (freshWith area) events))
     → Demand3Of (freshWith area) (historyOf machine (freshWith area) events)
 
--- A module whose record is possible and has the declared width of contexts, with an area of the right size.
-pub record Sound (m : Module) : Type 0 where
-  pub record-possible : possible (m .device) ≡ true
-  pub contexts-fit : given (m .device .transfer) ≤ lastContext
+-- A cabinet whose record is possible and has the declared width of contexts, with an area of the right size.
+pub record Sound (m : Whole) : Type 0 where
+  pub record-possible : possibleCabinet (m .cabinet) ≡ true
+  pub contexts-fit : m .cabinet .contexts ≤ lastContext
   pub area-size : length (m .area) ≡ areaSize
 
--- What holds from every such module, whatever contexts the hosts use.
-pub record FromAnywhere (m : Module) (h : History) : Type 0 where
+-- What holds from every such cabinet, whatever contexts the hosts use.
+pub record FromAnywhere (m : Whole) (h : History) : Type 0 where
   pub strike-out : StrikeOut m h
   pub move : Move m (struck h)
   pub all-moved : AllMoved m (struck h)
@@ -178,11 +183,11 @@ pub record FromAnywhere (m : Module) (h : History) : Type 0 where
   pub never-again : NeverAgain (struck h)
 
 abbrev pub DemandFromAnywhere : Type 0
-DemandFromAnywhere = (m : Module) → Sound m → (events : List Event) → FromAnywhere m (historyOf machine m events)
+DemandFromAnywhere = (m : Whole) → Sound m → (events : List Event) → FromAnywhere m (historyOf machine m events)
 
--- What `FromAnywhere` does not say yet, from a fresh module, whatever contexts the hosts use. Only "each from one host" is left out, and with it the hosts
+-- What `FromAnywhere` does not say yet, from a fresh cabinet, whatever contexts the hosts use. Only "each from one host" is left out, and with it the hosts
 -- in `OwnPieces`: they alone need honest hosts.
-pub record WithAnyHosts (m : Module) (h : History) : Type 0 where
+pub record WithAnyHosts (m : Whole) (h : History) : Type 0 where
   pub one-after-another : OneAfterAnother (struck h)
   pub received : (f : FinishedIn (struck h)) → Received m f
   pub staged-exactly : StagedExactly m h

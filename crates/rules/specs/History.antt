@@ -1,5 +1,5 @@
 -- Vocabulary: machines and their histories, that is, the events that came, each with the answer that it got, in their order. Knows no module; the
--- module's own `History` is in Transfers.antt.
+-- cabinet's own `History` is in Transfers.antt.
 -- Assumes nothing.
 use Prim.Native.Nat.{ℕ, _+_}
 use mathlib.Core.{Path._≡_, Bool.{Bool, true, false, not, _||_}, List.{List, [], _∷_, _++_}}
@@ -63,7 +63,7 @@ module _ {S X : Type 0} (onward : S → X → S) where
   Throughout P s [] = Unit {0}
   Throughout P s (x ∷ h) = P s x × Throughout P (onward s x) h
 
--- a machine answers an event, and is in another state afterExchange
+-- a machine answers an event, and is in another state afterwards
 pub record Machine (S E A : Type 0) : Type 0 where
   pub answer : S → E → A
   pub next : S → E → S

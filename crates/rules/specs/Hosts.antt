@@ -4,7 +4,8 @@ use Prim.Native.Nat.{ℕ, _≤_}
 use mathlib.Core.{Path._≡_, Logic._⊎_, List.{List, [], _∷_}}
 use lib.ListN.{length}
 use Rattle.rules.specs.Transfer.{GetFwInfo, Start, Send, Finish, Query}
-use Rattle.rules.specs.Module.{Call, OnMask, OnHealth, OnThresholds, OnTransfer, OnSecurity, OnNothing, Event, call, tick, power, reading, callIn}
+use Rattle.rules.specs.Module.{Call, OnMask, OnHealth, OnThresholds, OnTransfer, OnSecurity, OnNothing, callIn}
+use Rattle.rules.specs.Cabinet.{Event, call, tick, power, reading}
 use Rattle.rules.specs.History.{Throughout}
 use Rattle.rules.specs.Transfers.{Exchange, History, Started, kindOf}
 
@@ -24,15 +25,19 @@ Carries OnNothing request context = ⊥
 
 -- the host uses the context in this event, whether or not the event is refused
 abbrev pub Uses : Event → (host context : ℕ) → Type 0
-Uses (call caller revision index request answer) host context = (host ≡ caller) × Carries (callIn revision index request) request context
+Uses (call caller named revision index request answer) host context = (host ≡ caller) × Carries (callIn revision index request) request context
 Uses tick host context = ⊥
-Uses power host context = ⊥
-Uses (reading new) host context = ⊥
+Uses (power named) host context = ⊥
+Uses (reading named new) host context = ⊥
 
--- an accepted Start of the history answered the context to the host
+-- an accepted Start answered the context to the host, of whichever module: the numbers are shared
+abbrev pub Answers : (host context : ℕ) → Exchange → Type 0
+Answers host context x = (named : ℕ) × (kindOf x ≡ Started named host context)
+
+-- one of the history did
 abbrev pub AnsweredTo : (host context : ℕ) → History → Type 0
 AnsweredTo host context [] = ⊥
-AnsweredTo host context (x ∷ h) = (kindOf x ≡ Started host context) ⊎ AnsweredTo host context h
+AnsweredTo host context (x ∷ h) = Answers host context x ⊎ AnsweredTo host context h
 
 -- every context that a host uses in the exchange was answered to it earlier; `past` is what came before
 abbrev pub UsesItsOwn : (past : History) → Exchange → Type 0

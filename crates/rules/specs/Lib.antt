@@ -3,17 +3,19 @@
 --
 -- One definition, read aloud (Transfer.antt):
 --
---     startChecks : Transfer → List Check
---     startChecks t =
+--     startChecks : Transfer → (given : ℕ) (taken : Bool) → List Check
+--     startChecks t given taken =
 --         (t .phase is Receiving || t .phase is Verifying gives Status 7 1)
 --         ∷ (t .phase is Staged gives Status 7 2)
---         ∷ (given t =? lastContext gives Status 8 0)
+--         ∷ (taken gives Status 8 0)
+--         ∷ (given =? lastContext gives Status 8 0)
 --         ∷ []
 --
--- "startChecks takes a transfer and gives a list of checks. Of a transfer t they are: if the phase of t is Receiving, or the phase of t is Verifying, that gives
--- status 7 with extended number 1; next, if the phase of t is Staged, that gives status 7 with 2; next, if the number given out by t equals the last context, that
--- gives status 8 with 0; and that is all." Of a list of checks the first whose test is true decides, and where none is the call is accepted (`verdict`,
--- Refusals.antt). So this is the page's "Start. Receiving or Verifying: 7/1. Staged: 7/2. Every context given out: 8."
+-- "startChecks takes a transfer, the number of contexts given out and whether the area is taken, and gives a list of checks. Of a transfer t they are: if the phase of t
+-- is Receiving, or the phase of t is Verifying, that gives status 7 with extended number 1; next, if the phase of t is Staged, that gives status 7 with 2; next, if the
+-- area is taken, that gives status 8 with 0; next, if the number given out equals the last context, that gives status 8 with 0; and that is all." Of a list of checks
+-- the first whose test is true decides, and where none is the call is accepted (`verdict`, Refusals.antt). So this is the page's "Start. Receiving or Verifying: 7/1.
+-- Staged: 7/2. Every context given out: 8.", with document 02's area busy.
 --
 -- The signs, by what they are for:
 --
@@ -54,11 +56,12 @@ pub mod Image
 pub mod Transfer
 pub mod Security
 pub mod Module
+pub mod Cabinet
 pub mod Log
 pub mod Replay
 pub mod Cases
 pub mod Texts
--- Demand 2 has no statement of its own: the definitions above are it. `step` (Module.antt) is the one result of each event, `replayText` (Replay.antt) the one
+-- Demand 2 has no statement of its own: the definitions above are it. `step` (Cabinet.antt) is the one result of each event, `replayText` (Replay.antt) the one
 -- text of each log; that the code gives exactly these is proved crate by crate.
 -- Demand 1.
 pub mod Demand1
@@ -80,3 +83,5 @@ pub mod Adopt
 pub mod Reserved
 pub mod Compare
 pub mod TripsKept
+-- T-09: two modules. The cabinet stands above (Record.antt, Cabinet.antt), and demand 3 is of both; here is what one module has of the other.
+pub mod Apart

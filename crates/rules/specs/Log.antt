@@ -34,8 +34,12 @@ requestBytes bytes = drop 8 bytes
 abbrev pub kindIn : List ℕ → ℕ
 kindIn bytes = ofLe (kindBytes bytes)
 
+-- document 02, T-09: "In logs the host byte's high four bits name the module"; the low four are the host
+abbrev pub namedIn : List ℕ → ℕ
+namedIn bytes = ofLe (hostBytes bytes) / 16
+
 abbrev pub hostIn : List ℕ → ℕ
-hostIn bytes = ofLe (hostBytes bytes)
+hostIn bytes = ofLe (hostBytes bytes) % 16
 
 abbrev pub revisionIn : List ℕ → ℕ
 revisionIn bytes = ofLe (revisionBytes bytes)
@@ -53,13 +57,20 @@ requestIn bytes = take (lengthIn bytes) (requestBytes bytes)
 abbrev pub padded : List ℕ → Bool
 padded bytes = zeros? (drop (8 + lengthIn bytes) bytes)
 
--- a good call record
+-- a good call record; T-09: "a module over 1 makes the record bad"
 abbrev pub goodCall : List ℕ → Bool
-goodCall bytes = (1 ≤? hostIn bytes) && (hostIn bytes ≤? 4) && (lengthIn bytes ≤? 536) && padded bytes
+goodCall bytes = (1 ≤? hostIn bytes) && (hostIn bytes ≤? 4) && (namedIn bytes ≤? 1) && (lengthIn bytes ≤? 536) && padded bytes
 
--- "Ticks and power have every byte after the kind zero."
+-- "Ticks and power have every byte after the kind zero." Of power T-09 leaves the module out.
 abbrev pub bare : List ℕ → Bool
 bare bytes = zeros? (drop 1 bytes)
+
+-- T-09: "in power and reading records its [the host byte's] low four are zero; a module over 1 makes the record bad"
+abbrev pub namesModule : List ℕ → Bool
+namesModule bytes = (hostIn bytes =? 0) && (namedIn bytes ≤? 1)
+
+abbrev pub goodPower : List ℕ → Bool
+goodPower bytes = namesModule bytes && zeros? (drop 2 bytes)
 
 -- document 02, T-04: "log kind 4, its five bytes at 8 to 12" (B18)
 abbrev pub spareIn : List ℕ → ℕ
@@ -73,16 +84,16 @@ controllerIn bytes = numberAt 2 11 bytes
 
 -- "The record's other bytes are zero, .. and a record with spare over 100 is bad."
 abbrev pub goodReading : List ℕ → Bool
-goodReading bytes = zeros? (take 7 (drop 1 bytes)) && zeros? (drop 13 bytes) && (spareIn bytes ≤? 100)
+goodReading bytes = namesModule bytes && zeros? (take 6 (drop 2 bytes)) && zeros? (drop 13 bytes) && (spareIn bytes ≤? 100)
 
 -- "Any other record is bad and skipped." A tail of less than a record is not asked: it is short.
 unfoldable pub entryOf : List ℕ → Entry
 entryOf bytes =
     if not (length bytes =? recordSize) then Bad
-    else if kindIn bytes =? 1 && goodCall bytes then Call (hostIn bytes) (revisionIn bytes) (functionIn bytes) (lengthIn bytes)
+    else if kindIn bytes =? 1 && goodCall bytes then Call (namedIn bytes) (hostIn bytes) (revisionIn bytes) (functionIn bytes) (lengthIn bytes)
     else if kindIn bytes =? 2 && bare bytes then Tick
-    else if kindIn bytes =? 3 && bare bytes then Power
-    else if kindIn bytes =? 4 && goodReading bytes then Health (spareIn bytes) (mediaIn bytes) (controllerIn bytes)
+    else if kindIn bytes =? 3 && goodPower bytes then Power (namedIn bytes)
+    else if kindIn bytes =? 4 && goodReading bytes then Health (namedIn bytes) (spareIn bytes) (mediaIn bytes) (controllerIn bytes)
     else Bad
 
 -- the whole records of a log, and record j of them

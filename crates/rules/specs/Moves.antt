@@ -1,7 +1,7 @@
 -- Demand 3's move: "All but its own Sends between a transfer's Start and its accepted Finish can move, in its own order, before that Start".
 -- Assumes nothing.
 use Prim.Native.Nat.{ℕ}
-use mathlib.Core.{Path._≡_, Bool.{Bool, false}, List.{[], _∷_}}
+use mathlib.Core.{Path._≡_, Bool.{Bool, false, _&&_}, List.{[], _∷_}}
 use Rattle.rules.specs.Tests.{if_then_else_, _=?_}
 use Rattle.rules.specs.History.{some, upTo, onFrom, _and-then_}
 use Rattle.rules.specs.Transfers.{Exchange, History, Kind, Started, Sent, Finished, Ticked, Powered, Other, kindOf}
@@ -20,28 +20,28 @@ pub data ByMoves (h : History) : History → Type 0 where
   as-it-is : ByMoves h h
   one-more : {k : History} → ByMoves h k → (f : FinishedIn k) → ByMoves h (moved f)
 
--- the Finish of the transfer with this context
-abbrev pub isFinishOf : (context : ℕ) → Kind → Bool
-isFinishOf context (Started host c) = false
-isFinishOf context (Sent host c offset piece) = false
-isFinishOf context (Finished host c flag) = c =? context
-isFinishOf context Ticked = false
-isFinishOf context Powered = false
-isFinishOf context Other = false
+-- the Finish of the transfer of this module with this context
+abbrev pub isFinishOf : (own context : ℕ) → Kind → Bool
+isFinishOf own context (Started named host c) = false
+isFinishOf own context (Sent named host c offset piece) = false
+isFinishOf own context (Finished named host c flag) = named =? own && c =? context
+isFinishOf own context Ticked = false
+isFinishOf own context (Powered named) = false
+isFinishOf own context Other = false
 
 -- whether an exchange is that Finish
-abbrev pub itsFinish : (context : ℕ) → Exchange → Bool
-itsFinish context x = isFinishOf context (kindOf x)
+abbrev pub itsFinish : (own context : ℕ) → Exchange → Bool
+itsFinish own context x = isFinishOf own context (kindOf x)
 
 -- A Start that its Finish follows goes behind the others of what stands before that Finish. Every other exchange stays.
 abbrev pub settle : Kind → Exchange → History → History
-settle (Started host context) x h =
-    if some (itsFinish context) h then othersFirst context x (upTo (itsFinish context) h) (onFrom (itsFinish context) h)
+settle (Started named host context) x h =
+    if some (itsFinish named context) h then othersFirst context x (upTo (itsFinish named context) h) (onFrom (itsFinish named context) h)
     else x ∷ h
-settle (Sent host context offset piece) x h = x ∷ h
-settle (Finished host context flag) x h = x ∷ h
+settle (Sent named host context offset piece) x h = x ∷ h
+settle (Finished named host context flag) x h = x ∷ h
 settle Ticked x h = x ∷ h
-settle Powered x h = x ∷ h
+settle (Powered named) x h = x ∷ h
 settle Other x h = x ∷ h
 
 -- the history with the move made for all its finished transfers at once, from the last one to the first

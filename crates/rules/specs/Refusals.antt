@@ -7,8 +7,8 @@ use Rattle.rules.specs.Tests.{if_then_else_, _=?_, _<?_}
 use Rattle.rules.specs.Bytes.{le, zeros, splice}
 use Rattle.rules.specs.Numbers.{areaSize, answerRoom}
 use Rattle.rules.specs.With.{_with-attempts_, _with-security_}
-use Rattle.rules.specs.Record.{possible, Module, _with-device_}
-use Rattle.rules.specs.declared.{Refusal.Refusal, Refusal.the-variants.R, Verdict.Verdict, Verdict.the-variants.{Accepted, Refused}, Device.Device, Reading.Reading}
+use Rattle.rules.specs.Record.{possibleCabinet, Whole, deviceOf, withDevice}
+use Rattle.rules.specs.declared.{Refusal.Refusal, Refusal.the-variants.R, Verdict.Verdict, Verdict.the-variants.{Accepted, Refused}, Device.Device, Cabinet.Cabinet, Reading.Reading}
 
 -- a check: where the test is true, this refusal is given
 infix 20 _gives_
@@ -28,17 +28,25 @@ R1Check answer = length answer <? answerRoom gives R 1
 abbrev pub R2Check : List ℕ → Check
 R2Check area = not (length area =? areaSize) gives R 2
 
--- "R3 | record not possible"
-abbrev pub R3Check : Device → Check
-R3Check d = not (possible d) gives R 3
+-- "R3 | record not possible": document 02, T-09, makes it the whole cabinet's (docs/DECISIONS.md, B31)
+abbrev pub R3Check : Cabinet → Check
+R3Check c = not (possibleCabinet c) gives R 3
 
 -- document 02, T-04: "spare over 100 in a new reading is R4"
 abbrev pub R4Check : Reading → Check
 R4Check new = 100 <? new .spare gives R 4
 
--- Every event makes these two checks. "Ticks and power cycles can give R2 and R3 only."
-abbrev pub eventChecks : Module → List Check
-eventChecks m = R2Check (m .area) ∷ R3Check (m .device) ∷ []
+-- document 02, T-09: "module over 1 is R5"
+abbrev pub R5Check : (named : ℕ) → Check
+R5Check named = 1 <? named gives R 5
+
+-- "Ticks .. can give R2 and R3 only." A tick names no module.
+abbrev pub tickChecks : Whole → List Check
+tickChecks w = R2Check (w .area) ∷ R3Check (w .cabinet) ∷ []
+
+-- Every other event names its module, and makes these three: "R5, before R3, for a power cycle or reading too"
+abbrev pub eventChecks : Whole → (named : ℕ) → List Check
+eventChecks w named = R2Check (w .area) ∷ R5Check named ∷ R3Check (w .cabinet) ∷ []
 
 -- "A call is refused if it gives an R number or a nonzero status; every other call is accepted, function 0 among them."
 abbrev pub refused? : Verdict → Bool
@@ -66,10 +74,6 @@ answerAfter bytes answer = splice 0 bytes answer
 abbrev pub oneAttemptMore : Device → Device
 oneAttemptMore d = d with-security (d .security with-attempts (d .security .attempts + 1))
 
--- the record that a status leaves
-abbrev pub recordLeft : (status : ℕ) → Device → Device
-recordLeft status d = if status =? 11 then oneAttemptMore d else d
-
--- the module that it leaves
-abbrev pub moduleLeft : (status : ℕ) → Module → Module
-moduleLeft status m = m with-device (recordLeft status (m .device))
+-- the record that a status leaves to a call of this module
+abbrev pub recordLeft : (status named : ℕ) → Cabinet → Cabinet
+recordLeft status named c = if status =? 11 then withDevice named (oneAttemptMore (deviceOf named c)) c else c

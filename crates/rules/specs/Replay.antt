@@ -9,28 +9,28 @@ use Rattle.rules.specs.Tests.{if_then_else_, _=?_}
 use Rattle.rules.specs.Bytes.{zeros}
 use Rattle.rules.specs.Text.{ascii, decimal, field}
 use Rattle.rules.specs.Numbers.{areaSize, answerRoom}
-use Rattle.rules.specs.Record.{_is_, fresh, given, Module, moduleOf}
+use Rattle.rules.specs.Record.{_is_, freshCabinet, Whole, wholeOf}
 use Rattle.rules.specs.Health.{newReading}
-use Rattle.rules.specs.Module.{Result, callResult, tickResult, powerResult, readingResult}
+use Rattle.rules.specs.Cabinet.{Result, callResult, tickResult, powerResult, readingResult}
 use Rattle.rules.specs.Log.{entryOf, requestIn, recordsIn, recordAt, shortTail}
-use Rattle.rules.specs.declared.{Phase.Phase, Phase.the-variants.{Idle, Receiving, Verifying, Staged, Failed}, Transfer.Transfer, Device.Device, Refusal.the-variants.{R, Status}}
+use Rattle.rules.specs.declared.{Phase.Phase, Phase.the-variants.{Idle, Receiving, Verifying, Staged, Failed}, Transfer.Transfer, Device.Device, Cabinet.Cabinet, Refusal.the-variants.{R, Status}}
 use Rattle.rules.specs.declared.{Verdict.Verdict, Verdict.the-variants.{Accepted, Refused}, Reply.Reply, Entry.Entry, Entry.the-variants.{Call, Tick, Power, Health, Bad}}
 
--- "Replay starts from a fresh module and an area of zeros"
-abbrev pub replayStart : Module
-replayStart = moduleOf fresh (zeros areaSize)
+-- "Replay starts from a fresh module and an area of zeros": from two (document 02, T-09)
+abbrev pub replayStart : Whole
+replayStart = wholeOf freshCabinet (zeros areaSize)
 
 -- a log record's call, lent an answer buffer of 132 zeros (A34)
-abbrev pub replayCall : Module → (revision index : ℕ) (request : List ℕ) → Result
-replayCall m revision index request = callResult m revision index request (zeros answerRoom)
+abbrev pub replayCall : Whole → (named revision index : ℕ) (request : List ℕ) → Result
+replayCall w named revision index request = callResult w named revision index request (zeros answerRoom)
 
--- the module after a log record
-abbrev pub played : Module → Entry → (request : List ℕ) → Module
-played m (Call host revision index size) request = replayCall m revision index request .after
-played m Tick request = tickResult m .after
-played m Power request = powerResult m .after
-played m (Health spare media controller) request = readingResult m (newReading spare media controller) .after
-played m Bad request = m
+-- the cabinet after a log record
+abbrev pub played : Whole → Entry → (request : List ℕ) → Whole
+played w (Call named host revision index size) request = replayCall w named revision index request .after
+played w Tick request = tickResult w .after
+played w (Power named) request = powerResult w named .after
+played w (Health named spare media controller) request = readingResult w named (newReading spare media controller) .after
+played w Bad request = w
 
 -- The two numbers of a call's line. A replay never gives an R number (A33), so that the two lines with R are never used.
 abbrev pub printedStatus : Verdict → ℕ
@@ -50,28 +50,28 @@ callLine number index reply =
     else (field number " call " ++ field (printedStatus (reply .verdict)) " " ++ field (printedExt (reply .verdict)) " " ++ field (reply .length) "\n")
 
 -- the line of a log record. "A power cycle prints `power`, a bad record `bad`"; document 02, T-04: "the replay prints `health`"
-abbrev pub entryLine : (number : ℕ) → Module → Entry → (request : List ℕ) → List ℕ
-entryLine number m (Call host revision index size) request = callLine number index (replayCall m revision index request .reply)
-entryLine number m Tick request = field number " tick\n"
-entryLine number m Power request = field number " power\n"
-entryLine number m (Health spare media controller) request = field number " health\n"
-entryLine number m Bad request = field number " bad\n"
+abbrev pub entryLine : (number : ℕ) → Whole → Entry → (request : List ℕ) → List ℕ
+entryLine number w (Call named host revision index size) request = callLine number index (replayCall w named revision index request .reply)
+entryLine number w Tick request = field number " tick\n"
+entryLine number w (Power named) request = field number " power\n"
+entryLine number w (Health named spare media controller) request = field number " health\n"
+entryLine number w Bad request = field number " bad\n"
 
-abbrev pub recordPlayed : Module → (bytes : List ℕ) → Module
-recordPlayed m bytes = played m (entryOf bytes) (requestIn bytes)
+abbrev pub recordPlayed : Whole → (bytes : List ℕ) → Whole
+recordPlayed w bytes = played w (entryOf bytes) (requestIn bytes)
 
-abbrev pub recordLine : (number : ℕ) → Module → (bytes : List ℕ) → List ℕ
-recordLine number m bytes = entryLine number m (entryOf bytes) (requestIn bytes)
+abbrev pub recordLine : (number : ℕ) → Whole → (bytes : List ℕ) → List ℕ
+recordLine number w bytes = entryLine number w (entryOf bytes) (requestIn bytes)
 
--- the module after the first j records of a log
-unfoldable pub moduleAfter : Module → (log : List ℕ) (j : ℕ) → Module
-moduleAfter m log zero = m
-moduleAfter m log (suc j) = recordPlayed (moduleAfter m log j) (recordAt log j)
+-- the cabinet after the first j records of a log
+unfoldable pub wholeAfter : Whole → (log : List ℕ) (j : ℕ) → Whole
+wholeAfter w log zero = w
+wholeAfter w log (suc j) = recordPlayed (wholeAfter w log j) (recordAt log j)
 
 -- the lines of the first j records of a log, the first of which has the number given: 0, but where a log is read part by part
-unfoldable pub recordLines : (number : ℕ) → Module → (log : List ℕ) (j : ℕ) → List ℕ
-recordLines number m log zero = []
-recordLines number m log (suc j) = recordLines number m log j ++ recordLine (number + j) (moduleAfter m log j) (recordAt log j)
+unfoldable pub recordLines : (number : ℕ) → Whole → (log : List ℕ) (j : ℕ) → List ℕ
+recordLines number w log zero = []
+recordLines number w log (suc j) = recordLines number w log j ++ recordLine (number + j) (wholeAfter w log j) (recordAt log j)
 
 -- "record kind status ext length"
 abbrev pub heading : List ℕ
@@ -102,9 +102,13 @@ reasonName reason =
 abbrev pub lineEnd : Transfer → List ℕ
 lineEnd t = if t .phase is Failed then ascii " " ++ ascii (reasonName (t .reason)) ++ ascii " " ++ field (t .faulty) "\n" else ascii "\n"
 
-abbrev pub lastLine : Device → List ℕ
-lastLine d =
-    ascii "end " ++ ascii (phaseName (d .transfer .phase)) ++ ascii " " ++ decimal (given (d .transfer)) ++ lineEnd (d .transfer)
+abbrev pub lastLine : (contexts : ℕ) → Device → List ℕ
+lastLine contexts d =
+    ascii "end " ++ ascii (phaseName (d .transfer .phase)) ++ ascii " " ++ decimal contexts ++ lineEnd (d .transfer)
+
+-- document 02, T-09: "The last line comes once for each module, 0 first, each with the shared number."
+abbrev pub lastLines : Cabinet → List ℕ
+lastLines c = lastLine (c .contexts) (c .first) ++ lastLine (c .contexts) (c .second)
 
 -- The text of a whole log.
 unfoldable pub replayText : (log : List ℕ) → List ℕ
@@ -112,4 +116,4 @@ replayText log =
     heading
     ++ recordLines 0 replayStart log (recordsIn log)
     ++ tailLine (recordsIn log) (shortTail log)
-    ++ lastLine (moduleAfter replayStart log (recordsIn log) .device)
+    ++ lastLines (wholeAfter replayStart log (recordsIn log) .cabinet)

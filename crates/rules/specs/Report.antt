@@ -6,9 +6,9 @@ use mathlib.Core.{Path._≡_, Logic._↔_, Bool.{Bool, true, false, _&&_}, List.
 use lib.ListN.{getD, set, replicate}
 use Rattle.rules.specs.Tests.{if_then_else_, _≤?_, _=?_}
 use Rattle.rules.specs.Text.{ascii, decimal, field}
-use Rattle.rules.specs.Record.{Module}
+use Rattle.rules.specs.Record.{Whole}
 use Rattle.rules.specs.Log.{entryOf, requestIn, recordsIn, recordAt, shortTail}
-use Rattle.rules.specs.Replay.{replayStart, replayCall, moduleAfter, printedStatus}
+use Rattle.rules.specs.Replay.{replayStart, replayCall, wholeAfter, printedStatus}
 use Rattle.rules.specs.History.{total, leadsTo, Throughout}
 use Rattle.rules.specs.declared.{Entry.Entry, Entry.the-variants.{Call, Tick, Power, Health, Bad}, Counts.Counts}
 
@@ -29,16 +29,16 @@ pub data Counted : Type 0 where
   masked ticked powered measured bad : Counted
 
 -- a call by its host and by the status that the replay prints, but for function 0, which has none
-abbrev pub countedAs : Module → Entry → (request : List ℕ) → Counted
-countedAs m (Call host revision index size) request =
-    if index =? 0 then masked else answered host (printedStatus (replayCall m revision index request .reply .verdict))
-countedAs m Tick request = ticked
-countedAs m Power request = powered
-countedAs m (Health spare media controller) request = measured
-countedAs m Bad request = bad
+abbrev pub countedAs : Whole → Entry → (request : List ℕ) → Counted
+countedAs w (Call named host revision index size) request =
+    if index =? 0 then masked else answered host (printedStatus (replayCall w named revision index request .reply .verdict))
+countedAs w Tick request = ticked
+countedAs w (Power named) request = powered
+countedAs w (Health named spare media controller) request = measured
+countedAs w Bad request = bad
 
-abbrev pub recordCounted : Module → (bytes : List ℕ) → Counted
-recordCounted m bytes = countedAs m (entryOf bytes) (requestIn bytes)
+abbrev pub recordCounted : Whole → (bytes : List ℕ) → Counted
+recordCounted w bytes = countedAs w (entryOf bytes) (requestIn bytes)
 
 -- one more at a place of a row; one more in the cell of a host and a status
 abbrev pub raisedAt : (place : ℕ) → List ℕ → List ℕ
@@ -71,10 +71,10 @@ raisedCounts bad c = countsOf (c .masks) (c .ticks) (c .powers) (c .readings) (c
 abbrev pub raised : Counted → Report → Report
 raised x r = record { grid = raisedGrid x (r .grid); counts = raisedCounts x (r .counts) }
 
--- the report after the first j records of a log, which is replayed from the module m
-unfoldable pub reportAfter : Report → Module → (log : List ℕ) (j : ℕ) → Report
-reportAfter r m log zero = r
-reportAfter r m log (suc j) = raised (recordCounted (moduleAfter m log j) (recordAt log j)) (reportAfter r m log j)
+-- the report after the first j records of a log, which is replayed from the cabinet w
+unfoldable pub reportAfter : Report → Whole → (log : List ℕ) (j : ℕ) → Report
+reportAfter r w log zero = r
+reportAfter r w log (suc j) = raised (recordCounted (wholeAfter w log j) (recordAt log j)) (reportAfter r w log j)
 
 -- a short tail raises its own count
 abbrev pub raisedShort : Bool → Counts → Counts
@@ -171,38 +171,38 @@ abbrev pub countIn : (Entry → ℕ) → (log : List ℕ) → ℕ
 countIn count log = countTo count log (recordsIn log)
 
 abbrev pub ifCall : Entry → ℕ
-ifCall (Call host revision index size) = 1
+ifCall (Call named host revision index size) = 1
 ifCall Tick = 0
-ifCall Power = 0
-ifCall (Health spare media controller) = 0
+ifCall (Power named) = 0
+ifCall (Health named spare media controller) = 0
 ifCall Bad = 0
 
 abbrev pub ifTick : Entry → ℕ
-ifTick (Call host revision index size) = 0
+ifTick (Call named host revision index size) = 0
 ifTick Tick = 1
-ifTick Power = 0
-ifTick (Health spare media controller) = 0
+ifTick (Power named) = 0
+ifTick (Health named spare media controller) = 0
 ifTick Bad = 0
 
 abbrev pub ifPower : Entry → ℕ
-ifPower (Call host revision index size) = 0
+ifPower (Call named host revision index size) = 0
 ifPower Tick = 0
-ifPower Power = 1
-ifPower (Health spare media controller) = 0
+ifPower (Power named) = 1
+ifPower (Health named spare media controller) = 0
 ifPower Bad = 0
 
 abbrev pub ifReading : Entry → ℕ
-ifReading (Call host revision index size) = 0
+ifReading (Call named host revision index size) = 0
 ifReading Tick = 0
-ifReading Power = 0
-ifReading (Health spare media controller) = 1
+ifReading (Power named) = 0
+ifReading (Health named spare media controller) = 1
 ifReading Bad = 0
 
 abbrev pub ifBad : Entry → ℕ
-ifBad (Call host revision index size) = 0
+ifBad (Call named host revision index size) = 0
 ifBad Tick = 0
-ifBad Power = 0
-ifBad (Health spare media controller) = 0
+ifBad (Power named) = 0
+ifBad (Health named spare media controller) = 0
 ifBad Bad = 1
 
 abbrev pub ifShort : (log : List ℕ) → ℕ

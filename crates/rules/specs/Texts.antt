@@ -1,5 +1,5 @@
 -- Document 01, "The replay program": logs and the texts that they print, as rows of one list: the page's own example, and beside it the empty log, a log that
--- ends in the middle of a record, and every line that the page names. That each prints just this text is the claim `texts-claim` of proofs/page/Claim.antt.
+-- ends in the middle of a record, and every line that the page names. Document 02, T-09, adds a last line for module 1. That each prints just this text is the claim `texts-claim` of proofs/page/Claim.antt.
 -- Assumes nothing.
 use Prim.Native.Nat.{ℕ, _-_}
 use mathlib.Core.List.{List, [], _∷_, _++_}
@@ -31,6 +31,10 @@ powers = 3 ∷ zeros 543
 
 abbrev reads : (spare : ℕ) → List ℕ
 reads spare = 4 ∷ zeros 7 ++ (spare ∷ 0x01 ∷ 0x05 ∷ 0x00 ∷ 0x80 ∷ zeros 531)
+
+-- a record of this kind with this host byte and nothing else
+abbrev names : (kind host-byte : ℕ) → List ℕ
+names kind host-byte = kind ∷ host-byte ∷ zeros 542
 
 abbrev fifth-kind : List ℕ
 fifth-kind = 5 ∷ zeros 543
@@ -79,38 +83,44 @@ abbrev pub texts : List Printed
 texts =
     -- "Start, Start by another host, tick, and 10 bytes over print exactly:"
     (asks 1 13 [] ++ asks 2 13 [] ++ ticks ++ zeros 10
-    prints heading ++ ascii "0 call 0 0 8\n1 call 7 1 8\n2 tick\n3 short\nend receiving 1\n")
+    prints heading ++ ascii "0 call 0 0 8\n1 call 7 1 8\n2 tick\n3 short\nend receiving 1\nend idle 1\n")
     -- the empty log
-    ∷ ([] prints heading ++ ascii "end idle 0\n")
+    ∷ ([] prints heading ++ ascii "end idle 0\nend idle 0\n")
     -- a log that ends in the middle of its second record
-    ∷ (asks 1 13 [] ++ take 272 finishes prints heading ++ ascii "0 call 0 0 8\n1 short\nend receiving 1\n")
+    ∷ (asks 1 13 [] ++ take 272 finishes prints heading ++ ascii "0 call 0 0 8\n1 short\nend receiving 1\nend idle 1\n")
     -- "A power cycle prints `power`, a bad record `bad`, function 0 prints `call - - 4`."
-    ∷ (powers ++ fifth-kind ++ asks 4 0 (zeros 3) prints heading ++ ascii "0 power\n1 bad\n2 call - - 4\nend idle 0\n")
+    ∷ (powers ++ fifth-kind ++ asks 4 0 (zeros 3) prints heading ++ ascii "0 power\n1 bad\n2 call - - 4\nend idle 0\nend idle 0\n")
     -- document 02, T-04: "the replay prints `health`, .. and a record with spare over 100 is bad"; function 1 answers 132 bytes
-    ∷ (reads 100 ++ reads 101 ++ asks 4 1 [] prints heading ++ ascii "0 health\n1 bad\n2 call 0 0 132\nend idle 0\n")
+    ∷ (reads 100 ++ reads 101 ++ asks 4 1 [] prints heading ++ ascii "0 health\n1 bad\n2 call 0 0 132\nend idle 0\nend idle 0\n")
     -- "The last line is phase in lower case and contexts": the phases that are left
-    ∷ (asks 1 13 [] ++ finishes prints heading ++ ascii "0 call 0 0 8\n1 call 0 0 4\nend verifying 1\n")
+    ∷ (asks 1 13 [] ++ finishes prints heading ++ ascii "0 call 0 0 8\n1 call 0 0 4\nend verifying 1\nend idle 1\n")
     ∷ (asks 1 13 [] ++ finishes ++ eight-ticks ++ asks 1 16 (le 4 1)
     prints heading
-    ++ ascii "0 call 0 0 8\n1 call 0 0 4\n2 tick\n3 tick\n4 tick\n5 tick\n6 tick\n7 tick\n8 tick\n9 tick\n10 call 7 3 12\nend failed 1 size 0\n")
+    ++ ascii "0 call 0 0 8\n1 call 0 0 4\n2 tick\n3 tick\n4 tick\n5 tick\n6 tick\n7 tick\n8 tick\n9 tick\n10 call 7 3 12\nend failed 1 size 0\nend idle 1\n")
     -- document 02, T-03: "as in `end failed 1 sum 3`"
     ∷ (asks 1 13 [] ++ wrong-sum ++ finishes ++ eight-ticks
     prints heading
-    ++ ascii "0 call 0 0 8\n1 call 0 0 4\n2 call 0 0 4\n3 tick\n4 tick\n5 tick\n6 tick\n7 tick\n8 tick\n9 tick\n10 tick\nend failed 1 sum 3\n")
+    ++ ascii "0 call 0 0 8\n1 call 0 0 4\n2 call 0 0 4\n3 tick\n4 tick\n5 tick\n6 tick\n7 tick\n8 tick\n9 tick\n10 tick\nend failed 1 sum 3\nend idle 1\n")
     ∷ (asks 1 13 [] ++ sends-image ++ finishes ++ eight-ticks
     prints heading
-    ++ ascii "0 call 0 0 8\n1 call 0 0 4\n2 call 0 0 4\n3 tick\n4 tick\n5 tick\n6 tick\n7 tick\n8 tick\n9 tick\n10 tick\nend staged 1\n")
+    ++ ascii "0 call 0 0 8\n1 call 0 0 4\n2 call 0 0 4\n3 tick\n4 tick\n5 tick\n6 tick\n7 tick\n8 tick\n9 tick\n10 tick\nend staged 1\nend idle 1\n")
     -- and each other reason: in the third record, in the second, in the last, and a version of zero in the first
     ∷ (asks 1 13 [] ++ wrong-number ++ finishes ++ eight-ticks
     prints heading
-    ++ ascii "0 call 0 0 8\n1 call 0 0 4\n2 call 0 0 4\n3 tick\n4 tick\n5 tick\n6 tick\n7 tick\n8 tick\n9 tick\n10 tick\nend failed 1 number 2\n")
+    ++ ascii "0 call 0 0 8\n1 call 0 0 4\n2 call 0 0 4\n3 tick\n4 tick\n5 tick\n6 tick\n7 tick\n8 tick\n9 tick\n10 tick\nend failed 1 number 2\nend idle 1\n")
     ∷ (asks 1 13 [] ++ wrong-count ++ finishes ++ eight-ticks
     prints heading
-    ++ ascii "0 call 0 0 8\n1 call 0 0 4\n2 call 0 0 4\n3 tick\n4 tick\n5 tick\n6 tick\n7 tick\n8 tick\n9 tick\n10 tick\nend failed 1 count 1\n")
+    ++ ascii "0 call 0 0 8\n1 call 0 0 4\n2 call 0 0 4\n3 tick\n4 tick\n5 tick\n6 tick\n7 tick\n8 tick\n9 tick\n10 tick\nend failed 1 count 1\nend idle 1\n")
     ∷ (asks 1 13 [] ++ wrong-version ++ finishes ++ eight-ticks
     prints heading
-    ++ ascii "0 call 0 0 8\n1 call 0 0 4\n2 call 0 0 4\n3 tick\n4 tick\n5 tick\n6 tick\n7 tick\n8 tick\n9 tick\n10 tick\nend failed 1 version 3\n")
+    ++ ascii "0 call 0 0 8\n1 call 0 0 4\n2 call 0 0 4\n3 tick\n4 tick\n5 tick\n6 tick\n7 tick\n8 tick\n9 tick\n10 tick\nend failed 1 version 3\nend idle 1\n")
     ∷ (asks 1 13 [] ++ version-zero ++ finishes ++ eight-ticks
     prints heading
-    ++ ascii "0 call 0 0 8\n1 call 0 0 4\n2 call 0 0 4\n3 tick\n4 tick\n5 tick\n6 tick\n7 tick\n8 tick\n9 tick\n10 tick\nend failed 1 version 0\n")
+    ++ ascii "0 call 0 0 8\n1 call 0 0 4\n2 call 0 0 4\n3 tick\n4 tick\n5 tick\n6 tick\n7 tick\n8 tick\n9 tick\n10 tick\nend failed 1 version 0\nend idle 1\n")
+    -- document 02, T-09: "In logs the host byte's high four bits name the module": Start of module 0, Start of module 1 (area busy), the power cycle and a reading of
+    -- module 1, Start of module 1 after the power cycle of module 0; "a module over 1 makes the record bad", and so does a host byte of a power cycle whose low four
+    -- bits are not zero, and any host byte of a tick but zero
+    ∷ (asks 1 13 [] ++ asks 0x12 13 [] ++ names 3 0x10 ++ names 4 0x10 ++ names 3 0x00 ++ asks 0x12 13 [] ++ names 3 0x20 ++ names 3 0x11 ++ asks 0x21 13 [] ++ names 2 0x10
+    prints heading
+    ++ ascii "0 call 0 0 8\n1 call 8 0 8\n2 power\n3 health\n4 power\n5 call 0 0 8\n6 bad\n7 bad\n8 bad\n9 bad\nend idle 2\nend receiving 2\n")
     ∷ []

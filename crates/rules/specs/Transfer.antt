@@ -1,13 +1,13 @@
 -- Document 01, "A firmware transfer": Get FW Info, Start, Send, Finish, Query, the tick and the power cycle.
 -- Assumes nothing.
 use Prim.Native.Nat.{ℕ, _+_, _-_, _*_}
-use mathlib.Core.{Bool.{not, _&&_, _||_}, List.{List, [], _∷_, _++_}}
+use mathlib.Core.{Bool.{Bool, not, _&&_, _||_}, List.{List, [], _∷_, _++_}}
 use lib.ListN.{length, take, drop}
 use Rattle.rules.specs.Tests.{if_then_else_, _<?_, _=?_}
 use Rattle.rules.specs.Bytes.{le, numberAt, zeros, zeros?, splice}
 use Rattle.rules.specs.Numbers.{areaSize, longestPiece, verification, tickMicroseconds, lastContext}
-use Rattle.rules.specs.With.{_with-phase_, _with-contexts_, _with-received_, _with-ticks_, _with-running_, _with-staged_, _with-reason_, _with-faulty_}
-use Rattle.rules.specs.Record.{_is_, given, current, live}
+use Rattle.rules.specs.With.{_with-phase_, _with-current_, _with-received_, _with-ticks_, _with-running_, _with-staged_, _with-reason_, _with-faulty_}
+use Rattle.rules.specs.Record.{_is_, current, live}
 use Rattle.rules.specs.Refusals.{Check, _gives_}
 use Rattle.rules.specs.Fault.{reasonNumber, imageOf}
 use Rattle.rules.specs.declared.{Refusal.the-variants.Status, Image.Image, Image.the-variants.{Good, Bad}}
@@ -34,12 +34,14 @@ fwInfo t =
     ++ le 8 (t .running)
     ++ le 8 (t .staged)
 
--- "Start. Receiving or Verifying: 7/1. Staged: 7/2. Every context given out: 8."
-abbrev pub startChecks : Transfer → List Check
-startChecks t =
+-- "Start. Receiving or Verifying: 7/1. Staged: 7/2. Every context given out: 8." Document 02, T-09: "area busy is status 8, after 7/1 and 7/2 and before contexts
+-- used up." How many contexts are given out, and whether the area is taken, is the cabinet's to say.
+abbrev pub startChecks : Transfer → (given : ℕ) (taken : Bool) → List Check
+startChecks t given taken =
     (t .phase is Receiving || t .phase is Verifying gives Status 7 1)
     ∷ (t .phase is Staged gives Status 7 2)
-    ∷ (given t =? lastContext gives Status 8 0)
+    ∷ (taken gives Status 8 0)
+    ∷ (given =? lastContext gives Status 8 0)
     ∷ []
 
 -- document 02, T-03: "Start and power cycle clear both", the reason and the record number of a fault
@@ -47,12 +49,12 @@ abbrev pub withoutFault : Transfer → Transfer
 withoutFault t = t with-reason 0 with-faulty 0
 
 -- "Else the next number is given, received is 0, phase Receiving;" "Numbers .. are never given again": `NeverAgain` in Demand3.antt says it of histories.
-abbrev pub startChange : Transfer → Transfer
-startChange t = withoutFault (t with-contexts (given t + 1) with-received 0 with-phase Receiving)
+abbrev pub startChange : Transfer → (given : ℕ) → Transfer
+startChange t given = withoutFault (t with-current (given + 1) with-received 0 with-phase Receiving)
 
 -- "the answer carries the context."
-abbrev pub startAnswer : Transfer → List ℕ
-startAnswer t = le 4 (given t + 1)
+abbrev pub startAnswer : (given : ℕ) → List ℕ
+startAnswer given = le 4 (given + 1)
 
 -- "Send: context (4), offset (4), length (4), piece." "The piece starts at byte 12 of the request;"
 abbrev pub sendOf : (request : List ℕ) → TransferCall
@@ -113,27 +115,36 @@ queryChecks t context =
 abbrev pub queryAnswer : Transfer → List ℕ
 queryAnswer t = le 8 (t .staged)
 
--- The five calls together: their checks; their answers after the status; what they change ("Query changes nothing."); and the area.
-abbrev pub transferChecks : Transfer → TransferCall → List Check
-transferChecks t GetFwInfo = []
-transferChecks t Start = startChecks t
-transferChecks t (Send context offset size piece) = sendChecks t context offset size piece
-transferChecks t (Finish flag reserved context) = finishChecks t flag reserved context
-transferChecks t (Query context) = queryChecks t context
+-- The five calls together: their checks; their answers after the status; what they change ("Query changes nothing."), how many contexts are given out then, and the
+-- area.
+abbrev pub transferChecks : Transfer → (given : ℕ) (taken : Bool) → TransferCall → List Check
+transferChecks t given taken GetFwInfo = []
+transferChecks t given taken Start = startChecks t given taken
+transferChecks t given taken (Send context offset size piece) = sendChecks t context offset size piece
+transferChecks t given taken (Finish flag reserved context) = finishChecks t flag reserved context
+transferChecks t given taken (Query context) = queryChecks t context
 
-abbrev pub transferAnswer : Transfer → TransferCall → List ℕ
-transferAnswer t GetFwInfo = fwInfo t
-transferAnswer t Start = startAnswer t
-transferAnswer t (Send context offset size piece) = []
-transferAnswer t (Finish flag reserved context) = []
-transferAnswer t (Query context) = queryAnswer t
+abbrev pub transferAnswer : Transfer → (given : ℕ) → TransferCall → List ℕ
+transferAnswer t given GetFwInfo = fwInfo t
+transferAnswer t given Start = startAnswer given
+transferAnswer t given (Send context offset size piece) = []
+transferAnswer t given (Finish flag reserved context) = []
+transferAnswer t given (Query context) = queryAnswer t
 
-abbrev pub transferChange : Transfer → TransferCall → Transfer
-transferChange t GetFwInfo = t
-transferChange t Start = startChange t
-transferChange t (Send context offset size piece) = sendChange t size
-transferChange t (Finish flag reserved context) = finishChange t flag
-transferChange t (Query context) = t
+abbrev pub transferChange : Transfer → (given : ℕ) → TransferCall → Transfer
+transferChange t given GetFwInfo = t
+transferChange t given Start = startChange t given
+transferChange t given (Send context offset size piece) = sendChange t size
+transferChange t given (Finish flag reserved context) = finishChange t flag
+transferChange t given (Query context) = t
+
+-- "the next number is given": to a Start, and to nothing else
+abbrev pub givenAfter : (given : ℕ) → TransferCall → ℕ
+givenAfter given GetFwInfo = given
+givenAfter given Start = given + 1
+givenAfter given (Send context offset size piece) = given
+givenAfter given (Finish flag reserved context) = given
+givenAfter given (Query context) = given
 
 -- "Start .. The area's bytes stay."
 abbrev pub transferArea : TransferCall → (area : List ℕ) → List ℕ
@@ -164,6 +175,6 @@ tickChange t area =
 abbrev pub runningAfter : Transfer → ℕ
 runningAfter t = if t .phase is Staged then t .staged else t .running
 
--- "Then in every case: Idle, received 0, ticks 0, staged version 0"; "Contexts .. stay." "Numbers outlive power cycles".
+-- "Then in every case: Idle, received 0, ticks 0, staged version 0"; "Contexts .. stay."
 abbrev pub transferPower : Transfer → Transfer
 transferPower t = withoutFault (t with-running (runningAfter t) with-phase Idle with-received 0 with-ticks 0 with-staged 0)

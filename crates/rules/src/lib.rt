@@ -51,11 +51,11 @@ pub enum Phase {
     Failed,
 }
 
-// The device record's firmware part: contexts given out so far, bytes received, ticks left, running and staged version; and in Failed, of the image's first
-// fault (document 02, T-03), the reason and the faulty record's number.
+// The device record's firmware part: the module's own current context (document 02, T-09), bytes received, ticks left, running and staged version; and in Failed, of
+// the image's first fault (T-03), the reason and the faulty record's number.
 pub struct Transfer {
     pub phase: Phase,
-    pub contexts: u32,
+    pub current: u32,
     pub received: u32,
     pub ticks: u8,
     pub reason: u8,
@@ -88,13 +88,20 @@ pub struct Reading {
     pub controller: u16,
 }
 
-// The device record. The trips byte is kept beside the thresholds and the reading that it follows from (document 02, T-08).
+// A module's device record. The trips byte is kept beside the thresholds and the reading that it follows from (document 02, T-08).
 pub struct Device {
     pub transfer: Transfer,
     pub thresholds: Thresholds,
     pub security: Security,
     pub reading: Reading,
     pub trips: u8,
+}
+
+// The cabinet's record (document 02, T-09): the contexts given out so far, which both modules share, and modules 0 and 1.
+pub struct Cabinet {
+    pub contexts: u32,
+    pub first: Device,
+    pub second: Device,
 }
 
 // What a refusal gives: an R number, which writes nothing, or a status with its extended number.
@@ -157,17 +164,21 @@ pub enum Image {
     Bad { reason: Reason, number: u8 },
 }
 
-// What a 544-byte record of a log says.
+// What a 544-byte record of a log says. A call, a power cycle and a reading name their module (document 02, T-09).
 pub enum Entry {
     Call {
+        named: u8,
         host: u8,
         revision: u16,
         function: u16,
         length: u16,
     },
     Tick,
-    Power,
+    Power {
+        named: u8,
+    },
     Health {
+        named: u8,
         spare: u8,
         media: u16,
         controller: u16,

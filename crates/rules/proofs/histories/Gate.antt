@@ -1,63 +1,93 @@
--- R numbers are an outer gate: what remains from a sound module plays alike with and without them.
+-- R numbers are an outer gate: what remains from a sound cabinet plays alike with and without them, seen from either module.
 -- Assumes nothing.
-use mathlib.Core.{Path.{_≡_, refl, sym, _∙_, ap, subst}, Bool.{Bool, true, false, false≢true}, List.{[], _∷_}}
-use Rattle.rules.specs.{Record.Module, History.{Plays, end, All, Same, afterExchange}, Transfers.{Answer, machine, Exchange, History}, Demand3.{remains, Sound}}
-use Rattle.rules.specs.Demand1.{bufferTooShort}
-use Rattle.rules.proofs.{page.Split.{act, inner, TransferPart, partOf}, page.Through.{Through, shut}, page.Facts.Kept}
-use Rattle.rules.proofs.{page.Possible.{sound-act, sound-through, sound-next}, histories.Joining.kept-along, page.Invariant.{Invariant, keeps-next}}
+use mathlib.Core.{Path.{_≡_, refl, sym, _∙_, ap, subst}, Bool.{Bool, true, false, _||_, false≢true}, List.{[], _∷_}}
+use lib.ListN.{length}
+use borrow.Author.Tests.{eq-eqb}
+use Rattle.rules.specs.{Tests._=?_, Numbers.areaSize, Record.Whole, History.{Plays, end, All, Same, afterExchange}, Transfers.{Answer, machine, Exchange, History}, Demand3.{remains, Sound}}
+use Rattle.rules.specs.Demand1.{bufferTooShort, moduleOver1}
+use Rattle.rules.proofs.{page.Split.{Seen, seenFrom, act, inner, TransferPart, partOf}, page.Through.{Through, stopped, shut, over}, page.Facts.Kept}
+use Rattle.rules.proofs.{page.Keeps.apart, page.Possible.{Fine, fine-act, sound-through, sound-next, sound-fine}, page.Choice.or-false, histories.Joining.kept-along, page.Invariant.{Invariant, keeps-next}}
 
--- the exchange remains; its answer buffer is long enough
+-- the exchange remains; nothing stopped it before the record was looked at
 abbrev pub Remains : Exchange → Type 0
 Remains x = Kept (x .got)
 
-abbrev pub Roomy : Exchange → Type 0
-Roomy x = bufferTooShort (x .event) ≡ false
+abbrev pub Unstopped : Exchange → Type 0
+Unstopped x = stopped (x .event) ≡ false
 
-pub roomy : (m : Module) (x : Exchange) → machine .answer m (x .event) ≡ x .got → Remains x → Roomy x
-roomy m x p k = go (bufferTooShort (x .event)) refl
+pub unstopped : (w : Whole) (x : Exchange) → Sound w → machine .answer w (x .event) ≡ x .got → Remains x → Unstopped x
+unstopped w x s p k = go (bufferTooShort (x .event)) refl (moduleOver1 (x .event)) refl
   where
-    go : (b : Bool) → bufferTooShort (x .event) ≡ b → bufferTooShort (x .event) ≡ false
-    go true e = absurd (false≢true (ap remains (sym (shut m (x .event) e .R1)) ∙ ap (λ (got : Answer). remains (got .reply .verdict)) p ∙ k))
-    go false e = e
+    kept : remains (machine .answer w (x .event) .reply .verdict) ≡ true
+    kept = ap (λ (got : Answer). remains (got .reply .verdict)) p ∙ k
 
-pub record Inward (m : Module) (h : History) : Type 0 where
-  pub plays : Plays inner m h
-  pub ends : end inner m h ≡ end machine m h
-  pub room : All Roomy h
+    go : (a : Bool) → bufferTooShort (x .event) ≡ a → (b : Bool) → moduleOver1 (x .event) ≡ b → stopped (x .event) ≡ false
+    go true e b f = absurd (false≢true (ap remains (sym (shut w (x .event) e .is-R)) ∙ kept))
+    go false e true f = absurd (false≢true (ap remains (sym (over w (x .event) e f (eq-eqb (length (w .area)) areaSize (s .area-size)) .is-R)) ∙ kept))
+    go false e false f = ap (λ (c : Bool). c || moduleOver1 (x .event)) e ∙ f
 
-pub inwards : (m : Module) (h : History) → Sound m → Plays machine m h → All Remains h → Inward m h
-inwards m [] w p k = record { plays = tt; ends = refl; room = tt }
-inwards m (x ∷ h) w p k =
-    let r : bufferTooShort (x .event) ≡ false = roomy m x (p .0) (k .0) in
-    let t : Through m (x .event) = sound-through m (x .event) w r in
-    let i : Inward (inner .next m (x .event)) h = inwards (inner .next m (x .event)) h (sound-act m (act (x .event)) w) (subst (λ (u : Module). Plays machine u h) (t .nexts-as) (p .1)) (k .1) in
-    record { plays = (sym (t .answers-as) ∙ p .0, i .plays); ends = i .ends ∙ ap (λ (u : Module). end machine u h) (sym (t .nexts-as)); room = (r, i .room) }
+-- it names a module that there is
+pub module-there : (x : Exchange) → Unstopped x → moduleOver1 (x .event) ≡ false
+module-there x u = or-false (bufferTooShort (x .event)) (moduleOver1 (x .event)) u .1
 
-pub record Outward (m : Module) (h : History) : Type 0 where
-  pub plays : Plays machine m h
-  pub ends : end machine m h ≡ end inner m h
+pub record Inward (first : Bool) (w : Whole) (h : History) : Type 0 where
+  pub plays : Plays (inner first) (seenFrom first w) h
+  pub ends : end (inner first) (seenFrom first w) h ≡ seenFrom first (end machine w h)
+  pub all-unstopped : All Unstopped h
 
-pub outwards : (m : Module) (h : History) → Sound m → Plays inner m h → All Roomy h → Outward m h
-outwards m [] w p r = record { plays = tt; ends = refl }
-outwards m (x ∷ h) w p r =
-    let t : Through m (x .event) = sound-through m (x .event) w (r .0) in
-    let i : Outward (inner .next m (x .event)) h = outwards (inner .next m (x .event)) h (sound-act m (act (x .event)) w) (p .1) (r .1) in
-    record { plays = (t .answers-as ∙ p .0, subst (λ (u : Module). Plays machine u h) (sym (t .nexts-as)) (i .plays)); ends = ap (λ (u : Module). end machine u h) (t .nexts-as) ∙ i .ends }
+pub inwards : (first : Bool) (w : Whole) (h : History) → Sound w → Plays machine w h → All Remains h → Inward first w h
+inwards first w [] s p k = record { plays = tt; ends = refl; all-unstopped = tt }
+inwards first w (x ∷ h) s p k =
+    let r : stopped (x .event) ≡ false = unstopped w x s (p .0) (k .0) in
+    let t : Through first w (x .event) = sound-through first w (x .event) s r in
+    let i : Inward first (machine .next w (x .event)) h = inwards first (machine .next w (x .event)) h (sound-next w (x .event) s) (p .1) (k .1) in
+    record {
+      plays = (sym (t .answers-as) ∙ p .0, subst (λ (u : Seen). Plays (inner first) u h) (t .nexts-as) (i .plays));
+      ends = ap (λ (u : Seen). end (inner first) u h) (sym (t .nexts-as)) ∙ i .ends;
+      all-unstopped = (r, i .all-unstopped);
+    }
+
+pub record Outward (first : Bool) (w : Whole) (h : History) : Type 0 where
+  pub plays : Plays machine w h
+  pub ends : seenFrom first (end machine w h) ≡ end (inner first) (seenFrom first w) h
+
+pub outwards : (first : Bool) (w : Whole) (h : History) → Sound w → Plays (inner first) (seenFrom first w) h → All Unstopped h → Outward first w h
+outwards first w [] s p r = record { plays = tt; ends = refl }
+outwards first w (x ∷ h) s p r =
+    let t : Through first w (x .event) = sound-through first w (x .event) s (r .0) in
+    let i : Outward first (machine .next w (x .event)) h =
+    outwards first (machine .next w (x .event)) h (sound-next w (x .event) s) (subst (λ (u : Seen). Plays (inner first) u h) (sym (t .nexts-as)) (p .1)) (r .1) in
+    record { plays = (t .answers-as ∙ p .0, i .plays); ends = i .ends ∙ ap (λ (u : Seen). end (inner first) u h) (t .nexts-as) }
 
 -- what is kept by every event holds at the end
-pub keeps-end : {P : TransferPart → Type 0} → Invariant P → (m : Module) (h : History) → P (partOf m) → P (partOf (end inner m h))
-keeps-end {P} i m h p =
-    kept-along (afterExchange inner) (λ (u : Module). P (partOf u)) (λ u x q. keeps-next {P = P} i u (act (x .event)) q) m h p
+pub keeps-end : {P : TransferPart → Type 0} → Invariant P → (first : Bool) (s : Seen) (h : History) → Fine s → P (partOf s) → P (partOf (end (inner first) s h))
+keeps-end {P} i first s h w p =
+    kept-along (afterExchange (inner first)) (λ (u : Seen). Fine u × P (partOf u))
+    (λ u x q. (fine-act u (act first (x .event)) (q .0), keeps-next {P = P} i u (apart u (q .0 .ok)) (act first (x .event)) (q .1))) s h (w, p) .1
 
-pub sound-end : (m : Module) (h : History) → Sound m → Sound (end machine m h)
-sound-end m h w = kept-along (afterExchange machine) Sound (λ u x s. sound-next u (x .event) s) m h w
+pub sound-end : (w : Whole) (h : History) → Sound w → Sound (end machine w h)
+sound-end w h s = kept-along (afterExchange machine) Sound (λ u x q. sound-next u (x .event) q) w h s
 
-pub sound-inner : (m : Module) (h : History) → Sound m → Sound (end inner m h)
-sound-inner m h w = kept-along (afterExchange inner) Sound (λ u x s. sound-act u (act (x .event)) s) m h w
+pub fine-end : (first : Bool) (s : Seen) (h : History) → Fine s → Fine (end (inner first) s h)
+fine-end first s h w = kept-along (afterExchange (inner first)) Fine (λ u x q. fine-act u (act first (x .event)) q) s h w
+
+-- what is seen from a module is all there is
+wholeFrom : (first : Bool) → Seen → Whole
+wholeFrom true s = record { cabinet = record { contexts = s .given; first = s .own; second = s .other }; area = s .area }
+wholeFrom false s = record { cabinet = record { contexts = s .given; first = s .other; second = s .own }; area = s .area }
+
+back : (first : Bool) (w : Whole) → wholeFrom first (seenFrom first w) ≡ w
+unfolding wholeFrom
+back true w = refl
+back false w = refl
+
+pub seen-all : (first : Bool) (u v : Whole) → seenFrom first u ≡ seenFrom first v → u ≡ v
+seen-all first u v e = sym (back first u) ∙ ap (wholeFrom first) e ∙ back first v
 
 -- what is the same without the R numbers is the same with them
-pub same-outward : (m : Module) (h k : History) → Sound m → Plays machine m h → All Remains h → All Roomy k → Same inner m h k → Same machine m h k
-same-outward m h k w p l r i =
-    let into : Inward m h = inwards m h w p l in
-    let out : Outward m k = outwards m k w (i .plays) r in
-    record { plays = out .plays; ends = out .ends ∙ i .ends ∙ into .ends }
+pub same-outward : (first : Bool) (w : Whole) (h k : History) → Sound w → Plays machine w h → All Remains h → All Unstopped k → Same (inner first) (seenFrom first w) h k
+    → Same machine w h k
+same-outward first w h k s p l r i =
+    let into : Inward first w h = inwards first w h s p l in
+    let out : Outward first w k = outwards first w k s (i .plays) r in
+    record { plays = out .plays; ends = seen-all first (end machine w k) (end machine w h) (out .ends ∙ i .ends ∙ into .ends) }

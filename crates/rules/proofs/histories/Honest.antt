@@ -6,11 +6,11 @@ use native.Mathlib.Omega.{arith}
 use lib.ListN.{length}
 use borrow.Author.Tests.{leb-true, eqb-true, not-false}
 use Rattle.rules.specs.{Tests.{if_then_else_, _=?_, _≤?_}, Refusals.refused?, Table.{table, lookUp, rowOf, fits?}, Transfer.{GetFwInfo, Start, Send, Finish, Query}}
-use Rattle.rules.specs.{Module.{callOf, Event, call, tick, power, reading}, History.{All, keep}, Transfers.{Exchange, History}}
+use Rattle.rules.specs.{Module.callOf, Cabinet.call, History.{All, keep}, Transfers.{Exchange, History}}
 use Rattle.rules.specs.{Hosts.{Carries, Uses, AnsweredTo, HonestAfter, Honest}, Demand3.{remains, struck}, declared.Verdict.Verdict}
 use Rattle.rules.specs.{declared.Verdict.the-variants.{Accepted, Refused}, declared.Row.Row, declared.Function.Function}
-use Rattle.rules.proofs.{page.Choice.{and-true, if-both}, page.Split.{Act, Transfers, Others, Ticks, Powers, Reads, act, actOf, unserved?, misfit?}}
-use Rattle.rules.proofs.{page.Through.kind-act, page.Facts.never, histories.KindOf.started-act, histories.Gate.Remains}
+use Rattle.rules.proofs.{page.Choice.{and-true, if-both}, page.Split.{Doing, Transfers, Others, Powers, Reads, doingOf, callDoing, unserved?, misfit?}}
+use Rattle.rules.proofs.{page.Facts.never, histories.KindOf.started-good, histories.Gate.Remains}
 use Rattle.rules.specs.declared.Function.the-variants as Function′
 
 -- how long a request must be to carry a context
@@ -58,19 +58,18 @@ long r request e = go (r .more) e
     go false f = let q = eqb-true (length request) (r .request) f in omega arith
 
 -- a served Send's or Finish's context was answered to its host
-abbrev pub UsesAct : History → Act → Type 0
-UsesAct past (Transfers host a b GetFwInfo n answer) = Unit {0}
-UsesAct past (Transfers host a b Start n answer) = Unit {0}
-UsesAct past (Transfers host a b (Send context offset size piece) n answer) = b ≡ false → AnsweredTo host context past
-UsesAct past (Transfers host a b (Finish flag reserved context) n answer) = b ≡ false → AnsweredTo host context past
-UsesAct past (Transfers host a b (Query context) n answer) = Unit {0}
-UsesAct past (Others a b x n answer) = Unit {0}
-UsesAct past Ticks = Unit {0}
-UsesAct past Powers = Unit {0}
-UsesAct past (Reads new) = Unit {0}
+abbrev pub UsesDoing : History → Doing → Type 0
+UsesDoing past (Transfers host a b GetFwInfo n answer) = Unit {0}
+UsesDoing past (Transfers host a b Start n answer) = Unit {0}
+UsesDoing past (Transfers host a b (Send context offset size piece) n answer) = b ≡ false → AnsweredTo host context past
+UsesDoing past (Transfers host a b (Finish flag reserved context) n answer) = b ≡ false → AnsweredTo host context past
+UsesDoing past (Transfers host a b (Query context) n answer) = Unit {0}
+UsesDoing past (Others a b x n answer) = Unit {0}
+UsesDoing past Powers = Unit {0}
+UsesDoing past (Reads new) = Unit {0}
 
 uses-call : (past : History) (f : Function) (host revision n : ℕ) (a b : Bool) (request answer : List ℕ) → (b ≡ false → needs f ≤ length request)
-    → ((context : ℕ) → Carries (callOf f revision request) request context → AnsweredTo host context past) → UsesAct past (actOf host a b (callOf f revision request) n answer)
+    → ((context : ℕ) → Carries (callOf f revision request) request context → AnsweredTo host context past) → UsesDoing past (doingOf host a b (callOf f revision request) n answer)
 uses-call past Function′.Mask host revision n a b request answer l u = tt
 uses-call past Function′.GetHealth host revision n a b request answer l u = tt
 uses-call past Function′.GetThreshold host revision n a b request answer l u = tt
@@ -87,14 +86,12 @@ uses-call past Function′.Unlock host revision n a b request answer l u = tt
 uses-call past Function′.Freeze host revision n a b request answer l u = tt
 uses-call past Function′.Unserved host revision n a b request answer l u = tt
 
-pub uses-act : (past : History) (event : Event) → ((host context : ℕ) → Uses event host context → AnsweredTo host context past) → UsesAct past (act event)
-uses-act past (call host revision index request answer) u =
+pub uses-doing : (past : History) (host named revision index : ℕ) (request answer : List ℕ)
+    → ((j context : ℕ) → Uses (call host named revision index request answer) j context → AnsweredTo j context past) → UsesDoing past (callDoing host revision index request answer)
+uses-doing past host named revision index request answer u =
     uses-call past (rowOf index .function) host revision (rowOf index .answer) (unserved? revision index) (misfit? index request) request answer
     (λ e. let l = long (rowOf index) request (not-false _ e) in let k = leb-true (needs (rowOf index .function)) (rowOf index .request) (row-enough index) in omega arith)
     (λ context k. u host context (refl, k))
-uses-act past tick u = tt
-uses-act past power u = tt
-uses-act past (reading new) u = tt
 
 -- what remains: it all remains, and it is honest
 remains-step : (b : Bool) (x : Exchange) (h : History) → remains (x .got .reply .verdict) ≡ b → All Remains h → All Remains (keep b x h)
@@ -119,7 +116,7 @@ good-remains (Refused refusal) e = never e
 
 left-more : (past past′ : History) (x : Exchange) → remains (x .got .reply .verdict) ≡ false → Holds past past′ → Holds (x ∷ past) past′
 left-more past past′ x n w host context (inl e) =
-    never (sym (good-remains (x .got .reply .verdict) (started-act (act (x .event)) (x .got) host context (sym (kind-act x) ∙ e) .good)) ∙ n)
+    never (sym (good-remains (x .got .reply .verdict) (started-good x (e .0) host context (e .1))) ∙ n)
 left-more past past′ x n w host context (inr m) = w host context m
 
 honest-step : (b : Bool) (past past′ : History) (x : Exchange) (h : History) → remains (x .got .reply .verdict) ≡ b → Holds past past′

@@ -1,49 +1,73 @@
--- One image waits at a time: while one is verified no Start is accepted.
+-- One image waits at a time, in both modules together: while one is verified no Start is accepted.
 -- Assumes nothing.
 use Prim.Native.Nat.{ℕ, _≤_}
-use mathlib.Core.{Path.{_≡_, refl, sym, _∙_, ap, subst}, Logic.{_⊎_, inl, inr}, Bool.{Bool, true, false}, List.{_∷_, _++_}}
+use mathlib.Core.{Path.{_≡_, refl, sym, _∙_, ap, subst}, Logic.{_⊎_, inl, inr}, Bool.{Bool, true, false, _||_}, List.{[], _∷_, _++_}}
 use native.Mathlib.Omega.{arith}
 use borrow.Author.Tests.{leb-true, leb-false}
-use Rattle.rules.specs.{Tests._≤?_, Numbers.verification, Record.{_is_, Module}, Transfer.Start, History.{Plays, end, All}}
-use Rattle.rules.specs.{Transfers.{machine, Exchange, History, Started, kindOf}, Sends.{ticksIn, powerCycles}, Demand3.{Sound, OneWaits}, declared.Phase.Phase}
-use Rattle.rules.specs.declared.Phase.the-variants.{Verifying}
-use Rattle.rules.proofs.{histories.Joining.plays-right, page.Split.{TransferPart, partOf, Act, Transfers, act, answers, inner}, page.Through.kind-act}
-use Rattle.rules.proofs.{page.Facts.{never, start-ok}, histories.KindOf.{StartAct, started-act, good-accepted}, histories.Gate.{Remains, inwards}}
-use Rattle.rules.proofs.histories.Due.{Held, held, after-finish}
+use Rattle.rules.specs.{Tests.{_≤?_, _=?_, _<?_}, Numbers.verification, Record.{_is_, Whole}, Transfer.Finish, History.{Plays, end, All}}
+use Rattle.rules.specs.{Transfers.{machine, Exchange, History, Started, Finished, kindOf}, Sends.{ticksIn, powerCycles}, Demand3.{Sound, OneWaits}, declared.Phase.Phase}
+use Rattle.rules.specs.declared.{Phase.the-variants.{Receiving, Verifying}}
+use Rattle.rules.proofs.{histories.Joining.{plays-right, all-left, all-right}, page.Split.{Seen, seenFrom, number, taken, TransferPart, partOf, partChange}, page.Through.side-named}
+use Rattle.rules.proofs.{page.Choice.or-false, page.Facts.{never, StartOk}, page.Possible.sound-next, histories.KindOf.finished-named, histories.Gate.{Remains, Unstopped, unstopped, module-there, inwards, sound-end}}
+use Rattle.rules.proofs.{histories.Order.{StartedAt, started-at}, histories.Due.{Held, held, after-finish}}
 
--- an accepted Start finds no image that is being verified
-start-at : (m : Module) (x : Exchange) (host context : ℕ) → kindOf x ≡ Started host context → inner .answer m (x .event) ≡ x .got → (m .device .transfer .phase is Verifying) ≡ false
-start-at m x host context k p =
-    let f : StartAct (act (x .event)) (x .got) host context = started-act (act (x .event)) (x .got) host context (sym (kind-act x) ∙ k) in
-    let q : answers m (Transfers host (f .unserved) (f .misfit) Start (f .n) (f .answer)) ≡ x .got = subst (λ (z : Act). answers m z ≡ x .got) (f .act-is) p in
-    start-ok (partOf m) (f .unserved) (f .misfit) (good-accepted (partOf m) (f .unserved) (f .misfit) Start (f .n) (f .answer) (x .got) q (f .good)) .not-verifying
+-- a Start of either module finds neither verifying
+not-verifying : (z first : Bool) (w : Whole) → StartOk (seenFrom z w .own .transfer) (w .cabinet .contexts) (taken (seenFrom z w)) → (seenFrom first w .own .transfer .phase is Verifying) ≡ false
+not-verifying true true w o = o .not-verifying
+not-verifying true false w o = or-false (w .cabinet .second .transfer .phase is Receiving) (w .cabinet .second .transfer .phase is Verifying) (o .free) .1
+not-verifying false true w o = or-false (w .cabinet .first .transfer .phase is Receiving) (w .cabinet .first .transfer .phase is Verifying) (o .free) .1
+not-verifying false false w o = o .not-verifying
 
-pub one-waits : (m : Module) (h : History) → Sound m → Plays machine m h → All Remains h → OneWaits h
-one-waits m h w p k before between since x y host other finished started e fx sy = go (verification ≤? ticksIn between) refl (1 ≤? powerCycles between) refl
+pub one-waits : (w : Whole) (h : History) → Sound w → Plays machine w h → All Remains h → OneWaits h
+one-waits w h s p k before between since x y named another host other finished started e fx sy = go (verification ≤? ticksIn between) refl (1 ≤? powerCycles named between) refl
   where
-    mx : Module
-    mx = end inner m before
+    first : Bool
+    first = named =? 0
 
-    my : Module
-    my = inner .next mx (x .event)
+    wx : Whole
+    wx = end machine w before
 
-    mz : Module
-    mz = end inner my between
+    wy : Whole
+    wy = machine .next wx (x .event)
 
-    px : Plays inner mx (x ∷ between ++ (y ∷ since))
-    px = plays-right inner m before (x ∷ between ++ (y ∷ since)) (subst (λ (l : History). Plays inner m l) e (inwards m h w p k .plays))
+    wz : Whole
+    wz = end machine wy between
 
-    left : partOf my .transfer .phase ≡ Verifying
-    left = ap (λ (s : TransferPart). s .transfer .phase) (after-finish mx x host finished fx (px .0))
+    tail : History
+    tail = y ∷ since
 
-    eight : partOf my .transfer .ticks ≡ verification
-    eight = ap (λ (s : TransferPart). s .transfer .ticks) (after-finish mx x host finished fx (px .0))
+    sx : Sound wx
+    sx = sound-end w before s
 
-    go : (a : Bool) → (verification ≤? ticksIn between) ≡ a → (b : Bool) → (1 ≤? powerCycles between) ≡ b → (verification ≤ ticksIn between) ⊎ (1 ≤ powerCycles between)
+    sound-y : Sound wy
+    sound-y = sound-next wx (x .event) sx
+
+    px : Plays machine wx (x ∷ between ++ tail)
+    px = plays-right machine w before (x ∷ between ++ tail) (subst (λ (l : History). Plays machine w l) e p)
+
+    kx : All Remains (x ∷ between ++ tail)
+    kx = all-right Remains before (x ∷ between ++ tail) (subst (All Remains) e k)
+
+    ux : All Unstopped (x ∷ between ++ tail)
+    ux = inwards true wx (x ∷ between ++ tail) sx px kx .all-unstopped
+
+    module-is : number first ≡ named
+    module-is = side-named named (finished-named x named host finished 0 fx (module-there x (ux .0)))
+
+    left : partOf (seenFrom first wy) ≡ partChange (partOf (seenFrom first wx)) (Finish 0 [] finished)
+    left = after-finish first wx x host finished sx (ux .0) (fx ∙ ap (λ (n : ℕ). Finished n host finished 0) (sym module-is)) (px .0)
+
+    go : (a : Bool) → (verification ≤? ticksIn between) ≡ a → (b : Bool) → (1 ≤? powerCycles named between) ≡ b → (verification ≤ ticksIn between) ⊎ (1 ≤ powerCycles named between)
     go true f b g = inl (leb-true verification (ticksIn between) f)
-    go false f true g = inr (leb-true 1 (powerCycles between) g)
+    go false f true g = inr (leb-true 1 (powerCycles named between) g)
     go false f false g =
         let few = leb-false verification (ticksIn between) f in
-        let none = leb-false 1 (powerCycles between) g in
-        let still : Held (partOf my) (partOf mz) (ticksIn between) = held my between left (omega (arith, none)) (omega (arith, few, eight)) in
-        never (sym (ap (λ (z : Phase). z is Verifying) (still .at)) ∙ start-at mz y other started sy (plays-right inner my between (y ∷ since) (px .1) .0))
+        let none = leb-false 1 (powerCycles named between) g in
+        let eight = ap (λ (z : TransferPart). z .transfer .ticks) left in
+        let still : Held (partOf (seenFrom first wy)) (partOf (seenFrom first wz)) (ticksIn between) =
+        held first wy between sound-y (all-left Unstopped between tail (ux .1)) (ap (λ (z : TransferPart). z .transfer .phase) left)
+        (ap (λ (n : ℕ). powerCycles n between) module-is ∙ omega (arith, none)) (omega (arith, few, eight)) in
+        let pz = plays-right machine wy between tail (px .1) in
+        let kz = all-right Remains between tail (kx .1) in
+        let b = started-at wz y another other started (sound-end wy between sound-y) sy (pz .0) (kz .0) in
+        never (sym (ap (λ (z : Phase). z is Verifying) (still .at)) ∙ not-verifying (another =? 0) first wz (b .allowed))

@@ -1,16 +1,16 @@
 -- What it says of a call that its checks have passed.
 -- Assumes nothing.
-use mathlib.Core.{Path._≡_, Bool.{not, _||_}, List.List}
+use mathlib.Core.{Path._≡_, Bool.{Bool, not, _||_}, List.List}
 use Prim.Native.Nat.{ℕ, _+_, _≤_}
 use lib.ListN.{length}
 use borrow.Author.Tests.{eqb-true, eqb-false, ltb-false, not-false}
 use Rattle.rules.specs.{Tests.{_=?_, _<?_}, Numbers.{areaSize, longestPiece, lastContext}, Refusals.verdict, Transfer.{startChecks, sendChecks}}
-use Rattle.rules.specs.{declared.Verdict.the-variants.Accepted, declared.Transfer.Transfer, Record.given}
+use Rattle.rules.specs.{declared.Verdict.the-variants.Accepted, declared.Transfer.Transfer}
 use Rattle.rules.proofs.{page.Choice.or-false, page.Passed.passed}
 
 -- a Start that is accepted: a number is left to give
-pub start-left : (t : Transfer) → verdict (startChecks t) ≡ Accepted → given t ≡ lastContext → ⊥
-start-left t e = eqb-false (given t) lastContext (passed (startChecks t) e .1 .1 .0)
+pub start-left : (t : Transfer) (given : ℕ) (taken : Bool) → verdict (startChecks t given taken) ≡ Accepted → given ≡ lastContext → ⊥
+start-left t given taken e = eqb-false given lastContext (passed (startChecks t given taken) e .1 .1 .1 .0)
 
 -- a Send that is accepted: its length is that of its piece, it ends inside the area, and it goes on where the last one stopped
 pub record SendFits (t : Transfer) (offset size : ℕ) (piece : List ℕ) : Type 0 where

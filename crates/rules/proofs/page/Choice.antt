@@ -23,6 +23,9 @@ and-3 a b c e = let p = and-true (a && b) c e in let q = and-true a b (p .0) in 
 pub and-4 : (a b c d : Bool) → (a && b && c && d) ≡ true → (a ≡ true) × (b ≡ true) × (c ≡ true) × (d ≡ true)
 and-4 a b c d e = let p = and-true (a && b && c) d e in let q = and-3 a b c (p .0) in (q .0, q .1, q .2, p .1)
 
+pub and-5 : (a b c d e : Bool) → (a && b && c && d && e) ≡ true → (a ≡ true) × (b ≡ true) × (c ≡ true) × (d ≡ true) × (e ≡ true)
+and-5 a b c d e h = let p = and-true (a && b && c && d) e h in let q = and-4 a b c d (p .0) in (q .0, q .1, q .2, q .3, p .1)
+
 pub and-6 : (a b c d e f : Bool) → (a && b && c && d && e && f) ≡ true
     → (a ≡ true) × (b ≡ true) × (c ≡ true) × (d ≡ true) × (e ≡ true) × (f ≡ true)
 and-6 a b c d e f h =

@@ -2,16 +2,16 @@
 -- definitions.
 -- Assumes nothing.
 use mathlib.Core.{Path.{_≡_, refl}, List.{[], map}}
-use Rattle.rules.specs.{Bytes.{zeros?, same?}, Record.{possible, possibleTransfer, possibleSecurity, possibleThresholds, possibleReading, possibleParts, possibleTrips}, Refusals.verdict}
-use Rattle.rules.specs.{Table.{rowOf, fits?, mask}, Image.sumOfWords, Fault.{recordFault, recordsFault, firstFault, imageOf}, Module.{callResult, tickResult, powerResult, readingResult}, Health.{above, trips}}
-use Rattle.rules.specs.{Text.decimal, Log.entryOf, Replay.{moduleAfter, recordLines, replayText}, Cases.{cases, failing}, Texts.{texts, logOf, textOf}}
+use Rattle.rules.specs.{Bytes.{zeros?, same?}, Record.{possible, possibleTransfer, possibleSecurity, possibleThresholds, possibleReading, possibleParts, possibleTrips, possibleCabinet}, Refusals.verdict}
+use Rattle.rules.specs.{Table.{rowOf, fits?, mask}, Image.sumOfWords, Fault.{recordFault, recordsFault, firstFault, imageOf}, Cabinet.{callResult, tickResult, powerResult, readingResult}, Health.{above, trips}}
+use Rattle.rules.specs.{Text.decimal, Log.entryOf, Replay.{wholeAfter, recordLines, replayText}, Cases.{cases, failing}, Texts.{texts, logOf, textOf}}
 
 -- No row of the case list fails.
 pub claim : failing 0 cases ≡ []
-unfolding zeros? same? possible possibleTransfer possibleSecurity possibleThresholds possibleReading possibleParts possibleTrips verdict rowOf fits? mask sumOfWords recordFault recordsFault firstFault imageOf callResult tickResult powerResult readingResult above trips
+unfolding zeros? same? possible possibleTransfer possibleSecurity possibleThresholds possibleReading possibleParts possibleTrips possibleCabinet verdict rowOf fits? mask sumOfWords recordFault recordsFault firstFault imageOf callResult tickResult powerResult readingResult above trips
 claim = refl
 
 -- Every log of the list of texts prints its text.
 pub texts-claim : map (λ row. replayText (logOf row)) texts ≡ map textOf texts
-unfolding zeros? same? possible possibleTransfer possibleSecurity possibleThresholds possibleReading possibleParts possibleTrips verdict rowOf fits? mask sumOfWords recordFault recordsFault firstFault imageOf callResult tickResult powerResult readingResult above trips decimal entryOf moduleAfter recordLines replayText
+unfolding zeros? same? possible possibleTransfer possibleSecurity possibleThresholds possibleReading possibleParts possibleTrips possibleCabinet verdict rowOf fits? mask sumOfWords recordFault recordsFault firstFault imageOf callResult tickResult powerResult readingResult above trips decimal entryOf wholeAfter recordLines replayText
 texts-claim = refl

@@ -4,7 +4,7 @@ use Prim.Native.Nat.{ℕ, zero, suc, _+_, _-_}
 use mathlib.Core.{Path.{_≡_, refl, sym, _∙_, ap}, Bool.{Bool, true, false}, List.{List, [], _∷_}}
 use native.Mathlib.Omega.{arith}
 use lib.ListN.{length, getD, set, replicate, length-set}
-use Rattle.rules.specs.{Record.Module, Log.{recordAt, recordsIn, shortTail}, Replay.{replayStart, moduleAfter}, History.All}
+use Rattle.rules.specs.{Record.Whole, Log.{recordAt, recordsIn, shortTail}, Replay.{replayStart, wholeAfter}, History.All}
 use Rattle.rules.specs.Report.{Report, nothingCounted, Counted, answered, masked, ticked, powered, measured, bad, recordCounted, raisedAt, raised, reportAfter, withTail, withLog, addedRow, addedGrid, _plus_}
 
 -- adding is in any order
@@ -102,12 +102,12 @@ plus-tail r q true = equal (record { grids = refl; masks = refl; ticks = refl; p
 plus-tail r q false = refl
 
 -- a log raises what it raises, whatever the report is that it is counted on
-pub after-plus : (r q : Report) (m : Module) (log : List ℕ) (j : ℕ) → reportAfter (r plus q) m log j ≡ r plus reportAfter q m log j
+pub after-plus : (r q : Report) (w : Whole) (log : List ℕ) (j : ℕ) → reportAfter (r plus q) w log j ≡ r plus reportAfter q w log j
 unfolding reportAfter
-after-plus r q m log zero = refl
-after-plus r q m log (suc j) =
-    let x : Counted = recordCounted (moduleAfter m log j) (recordAt log j) in
-    ap (raised x) (after-plus r q m log j) ∙ sym (plus-raised r (reportAfter q m log j) x)
+after-plus r q w log zero = refl
+after-plus r q w log (suc j) =
+    let x : Counted = recordCounted (wholeAfter w log j) (recordAt log j) in
+    ap (raised x) (after-plus r q w log j) ∙ sym (plus-raised r (reportAfter q w log j) x)
 
 pub log-plus : (r q : Report) (log : List ℕ) → withLog (r plus q) log ≡ r plus withLog q log
 log-plus r q log =
@@ -138,10 +138,10 @@ shaped-raised powered r s = s
 shaped-raised measured r s = s
 shaped-raised bad r s = s
 
-pub shaped-after : (r : Report) (m : Module) (log : List ℕ) (j : ℕ) → Shaped (r .grid) → Shaped (reportAfter r m log j .grid)
+pub shaped-after : (r : Report) (w : Whole) (log : List ℕ) (j : ℕ) → Shaped (r .grid) → Shaped (reportAfter r w log j .grid)
 unfolding reportAfter
-shaped-after r m log zero s = s
-shaped-after r m log (suc j) s = shaped-raised (recordCounted (moduleAfter m log j) (recordAt log j)) (reportAfter r m log j) (shaped-after r m log j s)
+shaped-after r w log zero s = s
+shaped-after r w log (suc j) s = shaped-raised (recordCounted (wholeAfter w log j) (recordAt log j)) (reportAfter r w log j) (shaped-after r w log j s)
 
 pub shaped-log : (r : Report) (log : List ℕ) → Shaped (r .grid) → Shaped (withLog r log .grid)
 shaped-log r log s = shaped-after r replayStart log (recordsIn log) s

@@ -4,23 +4,23 @@ use mathlib.Core.{Path.{_≡_, refl, sym, _∙_, ap, subst}, Logic.{inl, inr}, B
 use Prim.Native.Nat.{ℕ, _-_}
 use borrow.Author.Tests.{eqb-true, eq-eqb}
 use lib.ListN.{length, take}
-use Rattle.rules.specs.{Tests._=?_, Bytes.zeros, Record.Module, Refusals.{verdict, statusBytes, statusLength, answerAfter}, Table.{table, rowOf}}
-use Rattle.rules.specs.Module.{Call, callOf, checks, acceptedAnswer, gateChecks, callChecks, outcome, callResult, happened, kept, readingChecks, readingResult}
+use Rattle.rules.specs.{Tests._=?_, Bytes.zeros, Record.{Module, Whole, standing}, Refusals.{Check, verdict, statusBytes, statusLength, answerAfter}, Table.{table, rowOf}}
+use Rattle.rules.specs.{Module.{Call, callOf, checks, acceptedAnswer}, Cabinet.{gateChecks, callChecks, outcome, callResult, happened, kept, readingChecks, readingResult}}
 use Rattle.rules.specs.{Demand1.{refusalNumbers, Among, Numbered, column, RefusedBy, Answered, OfCall, readingNumbers, OfReading, Demand1}, declared.Function.Function}
 use Rattle.rules.specs.declared.Function.the-variants.{Mask, GetHealth, GetThreshold, GetFwInfo, Start, Send, Finish, Query, SetThreshold, GetSecurityState, SetPassphrase, Disable, Unlock, Freeze, Unserved}
 use Rattle.rules.specs.{declared.Row.Row, declared.Reading.Reading, declared.Refusal.Refusal, declared.Refusal.the-variants.{R, Status}, declared.Verdict.Verdict}
 use Rattle.rules.specs.declared.Verdict.the-variants.{Accepted, Refused}
 use Rattle.rules.proofs.{page.Choice.and-true, page.Passed.{every, by-rows}, page.Rows.looked-up, page.Given.{each-given, each-by-reading}}
-use Rattle.rules.proofs.page.Possible.{possible-fresh, possible-next, area-next, only-R1-R4}
+use Rattle.rules.proofs.page.Possible.{possible-fresh, possible-next, area-next, no-other-R}
 
 -- a test for the numbers of a list, and that it tells the truth
-abbrev same-number : Refusal → Refusal → Bool
+abbrev pub same-number : Refusal → Refusal → Bool
 same-number (R a) (R b) = a =? b
 same-number (R a) (Status status ext) = false
 same-number (Status status ext) (R b) = false
 same-number (Status a b) (Status status ext) = a =? status && b =? ext
 
-abbrev among? : List Refusal → Refusal → Bool
+abbrev pub among? : List Refusal → Refusal → Bool
 among? [] refusal = false
 among? (number ∷ numbers) refusal = same-number refusal number || among? numbers refusal
 
@@ -89,15 +89,15 @@ own-allowed m Freeze revision request = refl
 own-allowed m Unserved revision request = refl
 
 -- the verdict that a result replies
-outcome-verdict : (v : Verdict) (m : Module) (call : Call) (n : ℕ) (answer : List ℕ) → outcome v m call n answer .reply .verdict ≡ v
-outcome-verdict Accepted m call n answer = refl
-outcome-verdict (Refused (R number)) m call n answer = refl
-outcome-verdict (Refused (Status status ext)) m call n answer = refl
+outcome-verdict : (v : Verdict) (w : Whole) (named : ℕ) (call : Call) (n : ℕ) (answer : List ℕ) → outcome v w named call n answer .reply .verdict ≡ v
+outcome-verdict Accepted w named call n answer = refl
+outcome-verdict (Refused (R number)) w named call n answer = refl
+outcome-verdict (Refused (Status status ext)) w named call n answer = refl
 
-refused-by : (refusal : Refusal) (m : Module) (call : Call) (n : ℕ) (answer : List ℕ) → allowed n (Refused refusal) ≡ true
-    → RefusedBy refusal m n answer (outcome (Refused refusal) m call n answer)
-refused-by (R number) m call n answer e = (refl, refl, refl, refl)
-refused-by (Status status ext) m call n answer e =
+refused-by : (refusal : Refusal) (w : Whole) (named : ℕ) (call : Call) (n : ℕ) (answer : List ℕ) → allowed n (Refused refusal) ≡ true
+    → RefusedBy refusal w named n answer (outcome (Refused refusal) w named call n answer)
+refused-by (R number) w named call n answer e = (refl, refl, refl, refl)
+refused-by (Status status ext) w named call n answer e =
     let long = eqb-true (statusLength status n) (column status n) (and-true (numbered? (Status status ext)) (statusLength status n =? column status n) e .1) in
     (refl, refl, ap (λ (k : ℕ). answerAfter (statusBytes status ext ++ zeros (k - 4)) answer) long, long)
 
@@ -141,32 +141,35 @@ accepted-begins m Unlock revision request other = refl
 accepted-begins m Freeze revision request other = refl
 accepted-begins m Unserved revision request other = refl
 
-module _ (m : Module) (revision index : ℕ) (request answer : List ℕ) where
+module _ (w : Whole) (named revision index : ℕ) (request answer : List ℕ) where
+  m : Module
+  m = standing named w
+
   judged : Verdict
-  judged = verdict (callChecks m revision index request answer)
+  judged = verdict (callChecks w named revision index request answer)
 
   n : ℕ
   n = rowOf index .answer
 
-  all-allowed : every (allowed n) (callChecks m revision index request answer) ≡ true
-  unfolding n
-  all-allowed = subst (λ (k : ℕ). every (allowed k) (callChecks m revision index request answer) ≡ true) (sym (table-answers index)) (gated (rowOf index .function))
+  all-allowed : every (allowed n) (callChecks w named revision index request answer) ≡ true
+  unfolding n m
+  all-allowed = subst (λ (k : ℕ). every (allowed k) (callChecks w named revision index request answer) ≡ true) (sym (table-answers index)) (gated (rowOf index .function))
     where
-      gated : (f : Function) → every (allowed (answerOf f)) (gateChecks m revision index request answer ++ checks m (callOf f revision request)) ≡ true
+      gated : (f : Function) → every (allowed (answerOf f)) (gateChecks w named revision index request answer ++ checks m (callOf f revision request)) ≡ true
       gated f = rw (eq-eqb (answerOf f) (answerOf f) refl) (own-allowed m f revision request)
 
   is-allowed : (refusal : Refusal) → judged ≡ Refused refusal → allowed n (Refused refusal) ≡ true
   unfolding judged
-  is-allowed refusal e = ap (allowed n) (sym e) ∙ by-rows (allowed n) (callChecks m revision index request answer) all-allowed
+  is-allowed refusal e = ap (allowed n) (sym e) ∙ by-rows (allowed n) (callChecks w named revision index request answer) all-allowed
 
-  replied : callResult m revision index request answer .reply .verdict ≡ judged
+  replied : callResult w named revision index request answer .reply .verdict ≡ judged
   unfolding callResult judged
-  replied = outcome-verdict judged m (callOf (rowOf index .function) revision request) (rowOf index .answer) answer
+  replied = outcome-verdict judged w named (callOf (rowOf index .function) revision request) (rowOf index .answer) answer
 
-  answered : judged ≡ Accepted → Answered (rowOf index) answer (callResult m revision index request answer)
-  unfolding callResult judged
+  answered : judged ≡ Accepted → Answered (rowOf index) answer (callResult w named revision index request answer)
+  unfolding callResult judged m
   answered e =
-      subst (λ (v : Verdict). Answered (rowOf index) answer (outcome v m (callOf (rowOf index .function) revision request) (rowOf index .answer) answer)) (sym e)
+      subst (λ (v : Verdict). Answered (rowOf index) answer (outcome v w named (callOf (rowOf index .function) revision request) (rowOf index .answer) answer)) (sym e)
       (record {
         bytes = acceptedAnswer m (callOf (rowOf index .function) revision request);
         written = refl;
@@ -175,7 +178,7 @@ module _ (m : Module) (revision index : ℕ) (request answer : List ℕ) where
         begins = accepted-begins m (rowOf index .function) revision request;
       })
 
-  of-call : OfCall m revision index request answer
+  of-call : OfCall w named revision index request answer
   unfolding callResult judged n
   of-call =
       record {
@@ -183,36 +186,40 @@ module _ (m : Module) (revision index : ℕ) (request answer : List ℕ) where
         numbers = λ refusal e. numbers-of n refusal (is-allowed refusal (sym replied ∙ e));
         leaves = λ refusal e.
             let f : judged ≡ Refused refusal = sym replied ∙ e in
-            subst (λ (v : Verdict). RefusedBy refusal m n answer (outcome v m (callOf (rowOf index .function) revision request) n answer)) (sym f)
-            (refused-by refusal m (callOf (rowOf index .function) revision request) n answer (is-allowed refusal f));
+            subst (λ (v : Verdict). RefusedBy refusal w named n answer (outcome v w named (callOf (rowOf index .function) revision request) n answer)) (sym f)
+            (refused-by refusal w named (callOf (rowOf index .function) revision request) n answer (is-allowed refusal f));
         answers = λ e. answered (sym replied ∙ e);
       }
 
--- a reading: every one of its rows gives a number of its own
-happened-verdict : (v : Verdict) (changed was : Module) → happened v changed was .reply .verdict ≡ v
+-- a tick, a power cycle or a reading: where every one of its rows gives a number of the list, it is refused by one of them
+pub happened-verdict : (v : Verdict) (changed was : Whole) → happened v changed was .reply .verdict ≡ v
 happened-verdict Accepted changed was = refl
 happened-verdict (Refused refusal) changed was = refl
 
-abbrev of-its-own : Verdict → Bool
-of-its-own Accepted = true
-of-its-own (Refused refusal) = among? readingNumbers refusal
+abbrev pub of-these : List Refusal → Verdict → Bool
+of-these numbers Accepted = true
+of-these numbers (Refused refusal) = among? numbers refusal
 
-of-reading : (m : Module) (new : Reading) → OfReading m new
+pub happened-among : (numbers : List Refusal) (rows : List Check) (changed was : Whole) → every (of-these numbers) rows ≡ true
+    → (refusal : Refusal) → happened (verdict rows) changed was .reply .verdict ≡ Refused refusal → Among numbers refusal
+happened-among numbers rows changed was own refusal e =
+    among-them numbers refusal (ap (of-these numbers) (sym e ∙ happened-verdict (verdict rows) changed was) ∙ by-rows (of-these numbers) rows own)
+
+of-reading : (w : Whole) (named : ℕ) (new : Reading) → OfReading w named new
 unfolding readingResult
-of-reading m new =
+of-reading w named new =
     record {
       judged = replied;
-      numbers = λ refusal e.
-          among-them readingNumbers refusal (ap of-its-own (sym (sym replied ∙ e)) ∙ by-rows of-its-own (readingChecks m new) refl);
-      leaves = λ refusal e. ap (λ (v : Verdict). happened v (kept m new) m .after) (sym replied ∙ e);
-      keeps = λ e. ap (λ (v : Verdict). happened v (kept m new) m .after) (sym replied ∙ e);
-      silent = silence (verdict (readingChecks m new));
+      numbers = happened-among readingNumbers (readingChecks w named new) (kept w named new) w refl;
+      leaves = λ refusal e. ap (λ (v : Verdict). happened v (kept w named new) w .after) (sym replied ∙ e);
+      keeps = λ e. ap (λ (v : Verdict). happened v (kept w named new) w .after) (sym replied ∙ e);
+      silent = silence (verdict (readingChecks w named new));
     }
   where
-    replied : happened (verdict (readingChecks m new)) (kept m new) m .reply .verdict ≡ verdict (readingChecks m new)
-    replied = happened-verdict (verdict (readingChecks m new)) (kept m new) m
+    replied : happened (verdict (readingChecks w named new)) (kept w named new) w .reply .verdict ≡ verdict (readingChecks w named new)
+    replied = happened-verdict (verdict (readingChecks w named new)) (kept w named new) w
 
-    silence : (v : Verdict) → (happened v (kept m new) m .reply .length ≡ 0) × (happened v (kept m new) m .answer ≡ [])
+    silence : (v : Verdict) → (happened v (kept w named new) w .reply .length ≡ 0) × (happened v (kept w named new) w .answer ≡ [])
     silence Accepted = (refl, refl)
     silence (Refused refusal) = (refl, refl)
 
@@ -223,11 +230,11 @@ demand-1 =
       each-given = each-given;
       readings = of-reading;
       each-by-reading = each-by-reading;
-      events = λ m event p l.
+      events = λ w event p l.
           record {
-            stays-possible = possible-next m event p l;
-            keeps-size = area-next m event p l;
-            only-R1-R4 = λ number e. only-R1-R4 m event number p l e;
+            stays-possible = possible-next w event p l;
+            keeps-size = area-next w event p l;
+            no-other-R = λ number e. no-other-R w event number p l e;
           };
       fresh-possible = possible-fresh;
     }

@@ -4,7 +4,7 @@ use mathlib.Core.{Path._≡_, Bool.true, List.List}
 use Prim.Native.Nat.{ℕ, _≤_}
 use lib.{Dec.lit≤, ListN.length}
 use borrow.Author.Tests.{eqb-true, leb-true, not-false}
-use Rattle.rules.specs.{Tests._=?_, Table.{table, rowOf, fits?}, Refusals.verdict, Record.Module, Module.gateChecks, declared.Row.Row}
+use Rattle.rules.specs.{Tests._=?_, Table.{table, rowOf, fits?}, Refusals.verdict, Record.Whole, Cabinet.gateChecks, declared.Row.Row}
 use Rattle.rules.specs.{declared.Verdict.the-variants.Accepted, declared.Function.Function}
 use Rattle.rules.specs.declared.Function.the-variants.{Mask, GetHealth, GetThreshold, GetFwInfo, Start, Send, Finish, Query, SetThreshold, GetSecurityState, SetPassphrase, Disable, Unlock, Freeze, Unserved}
 use Rattle.rules.proofs.{page.Rows.looked-up, page.Passed.passed}
@@ -46,7 +46,7 @@ unfolding rowOf
 answers index = looked-up Answers index table ((lit≤ tt, lit≤ tt), ((lit≤ tt, lit≤ tt), ((lit≤ tt, lit≤ tt), ((lit≤ tt, lit≤ tt), ((lit≤ tt, lit≤ tt), ((lit≤ tt, lit≤ tt), ((lit≤ tt, lit≤ tt), ((lit≤ tt, lit≤ tt), ((lit≤ tt, lit≤ tt), ((lit≤ tt, lit≤ tt), ((lit≤ tt, lit≤ tt), ((lit≤ tt, lit≤ tt), ((lit≤ tt, lit≤ tt), ((lit≤ tt, lit≤ tt), (lit≤ tt, lit≤ tt)))))))))))))))
 
 -- a request that passed the gate has the bytes that its function reads
-pub gate-fits : (m : Module) (revision index : ℕ) (request answer : List ℕ)
-    → verdict (gateChecks m revision index request answer) ≡ Accepted → Fitting (rowOf index .function) (length request)
-gate-fits m revision index request answer e =
-    fitting index request (not-false (fits? (rowOf index) request) (passed (gateChecks m revision index request answer) e .1 .1 .1 .1 .0))
+pub gate-fits : (w : Whole) (named revision index : ℕ) (request answer : List ℕ)
+    → verdict (gateChecks w named revision index request answer) ≡ Accepted → Fitting (rowOf index .function) (length request)
+gate-fits w named revision index request answer e =
+    fitting index request (not-false (fits? (rowOf index) request) (passed (gateChecks w named revision index request answer) e .1 .1 .1 .1 .1 .0))

@@ -1,28 +1,54 @@
--- The module without its R numbers, in two parts that do not touch: what a transfer uses, and the rest. Definitions for the proofs only.
+-- The cabinet without its R numbers, seen from one of its modules: its own record, the other's, the shared number and the area. An event is something that the one or
+-- the other is asked to do, or a tick. What a module does falls into two parts that do not touch: what a transfer uses, and the rest. Definitions for the proofs only.
 -- Assumes nothing.
 use Prim.Native.Nat.{ℕ, _+_}
-use mathlib.Core.{Bool.{Bool, not, _&&_}, List.{List, _∷_, _++_, []}}
-use Rattle.rules.specs.{Tests.{if_then_else_, _=?_}, Bytes.le, With._with-attempts_}
+use mathlib.Core.{Bool.{Bool, true, false, not, _&&_}, List.{List, _∷_, _++_, []}}
+use Rattle.rules.specs.{Tests.{if_then_else_, _=?_}, Bytes.le, With.{_with-attempts_, _with-transfer_}}
 use Rattle.rules.specs.{Refusals.{Check, _gives_, verdict, R4Check, statusBytes, statusLength, statusAnswer, answerAfter}, Table.{rowOf, served?, fits?, mask}}
 use Rattle.rules.specs.{Thresholds.{ThresholdCall, thresholdChecks, thresholdAnswer, thresholdChange}, Health.{trips, answerWith}}
-use Rattle.rules.specs.Transfer.{TransferCall, transferChecks, transferAnswer, transferChange, transferArea, tickChange, transferPower}
-use Rattle.rules.specs.{Security.{SecurityCall, securityChecks, securityAnswer, securityChange, securityPower}, Record.{given, Module}}
-use Rattle.rules.specs.{Module.{Call, OnMask, OnHealth, OnThresholds, OnTransfer, OnSecurity, OnNothing, Event, call, tick, power, reading, reply, callIn, tripsAfter}, History.Machine}
-use Rattle.rules.specs.{Transfers.{Answer, Kind, Ticked, Powered, Other, callKind}, declared.Refusal.the-variants.{R, Status}, declared.Verdict.Verdict}
-use Rattle.rules.specs.{declared.Verdict.the-variants.{Accepted, Refused}, declared.Transfer.Transfer, declared.Thresholds.Thresholds, declared.Security.Security, declared.Reading.Reading}
+use Rattle.rules.specs.Transfer.{TransferCall, transferChecks, transferAnswer, transferChange, givenAfter, transferArea, tickChange, transferPower}
+use Rattle.rules.specs.{Security.{SecurityCall, securityChecks, securityAnswer, securityChange, securityPower}, Record.{hasArea, Whole}}
+use Rattle.rules.specs.{Module.{Call, OnMask, OnHealth, OnThresholds, OnTransfer, OnSecurity, OnNothing, callIn, tripsAfter, deviceTicked}, History.Machine}
+use Rattle.rules.specs.{Cabinet.{Event, call, tick, power, reading, reply}, Transfers.{Answer, Kind, Ticked, Powered, Other, callKind}, declared.Refusal.the-variants.{R, Status}, declared.Verdict.Verdict}
+use Rattle.rules.specs.{declared.Verdict.the-variants.{Accepted, Refused}, declared.Transfer.Transfer, declared.Thresholds.Thresholds, declared.Security.Security, declared.Reading.Reading, declared.Device.Device}
+
+-- the cabinet, seen from one of its modules
+pub record Seen : Type 0 where
+  pub own : Device
+  pub other : Device
+  pub given : ℕ
+  pub area : List ℕ
+
+-- from module 0, where the test is true, or from module 1; and the module's number
+abbrev pub seenFrom : (first : Bool) → Whole → Seen
+seenFrom first w =
+    record {
+      own = if first then w .cabinet .first else w .cabinet .second;
+      other = if first then w .cabinet .second else w .cabinet .first;
+      given = w .cabinet .contexts;
+      area = w .area;
+    }
+
+abbrev pub number : (first : Bool) → ℕ
+number first = if first then 0 else 1
+
+-- from the other one
+abbrev pub turned : Seen → Seen
+turned s = record { own = s .other; other = s .own; given = s .given; area = s .area }
+
+-- the other module has the area
+abbrev pub taken : Seen → Bool
+taken s = hasArea (s .other .transfer)
 
 -- what a transfer uses; the rest
 pub record TransferPart : Type 0 where
   pub transfer : Transfer
+  pub given : ℕ
   pub area : List ℕ
 
--- the contexts given out
-abbrev pub givenIn : TransferPart → ℕ
-givenIn s = given (s .transfer)
-
-infixl 10 _with-part_
+infixl 10 _with-part_ _with-its-part_ _with-its-rest_
 abbrev pub _with-part_ : TransferPart → Transfer → TransferPart
-s with-part t = record { transfer = t; area = s .area }
+p with-part t = record { transfer = t; given = p .given; area = p .area }
 
 pub record Rest : Type 0 where
   pub thresholds : Thresholds
@@ -30,15 +56,24 @@ pub record Rest : Type 0 where
   pub reading : Reading
   pub trips : ℕ
 
-abbrev pub partOf : Module → TransferPart
-partOf m = record { transfer = m .device .transfer; area = m .area }
+abbrev pub partOf : Seen → TransferPart
+partOf s = record { transfer = s .own .transfer; given = s .given; area = s .area }
 
-abbrev pub restOf : Module → Rest
-restOf m = record { thresholds = m .device .thresholds; security = m .device .security; reading = m .device .reading; trips = m .device .trips }
+abbrev pub restOf : Seen → Rest
+restOf s = record { thresholds = s .own .thresholds; security = s .own .security; reading = s .own .reading; trips = s .own .trips }
 
-abbrev pub join : TransferPart → Rest → Module
-join s r =
-    record { device = record { transfer = s .transfer; thresholds = r .thresholds; security = r .security; reading = r .reading; trips = r .trips }; area = s .area }
+-- the module with this part, and with this rest
+abbrev pub _with-its-part_ : Seen → TransferPart → Seen
+s with-its-part p = record { own = s .own with-transfer (p .transfer); other = s .other; given = p .given; area = p .area }
+
+abbrev pub _with-its-rest_ : Seen → Rest → Seen
+s with-its-rest r =
+    record {
+      own = record { transfer = s .own .transfer; thresholds = r .thresholds; security = r .security; reading = r .reading; trips = r .trips };
+      other = s .other;
+      given = s .given;
+      area = s .area;
+    }
 
 -- a call that touches the rest alone
 pub data RestCall : Type 0 where
@@ -55,21 +90,26 @@ toCall (Limits x) = OnThresholds x
 toCall (Locks x) = OnSecurity x
 toCall Nothing = OnNothing
 
--- an event by the part that it touches; `unserved` and `misfit` are the tests of the table's two checks, n is the answer's length
-pub data Act : Type 0 where
-  Transfers : (host : ℕ) (unserved misfit : Bool) (x : TransferCall) (n : ℕ) (answer : List ℕ) → Act
-  Others : (unserved misfit : Bool) (x : RestCall) (n : ℕ) (answer : List ℕ) → Act
-  Ticks : Act
-  Powers : Act
-  Reads : (new : Reading) → Act
+-- what a module is asked to do, by the part that it touches; `unserved` and `misfit` are the tests of the table's two checks, n is the answer's length
+pub data Doing : Type 0 where
+  Transfers : (host : ℕ) (unserved misfit : Bool) (x : TransferCall) (n : ℕ) (answer : List ℕ) → Doing
+  Others : (unserved misfit : Bool) (x : RestCall) (n : ℕ) (answer : List ℕ) → Doing
+  Powers : Doing
+  Reads : (new : Reading) → Doing
 
-abbrev pub actOf : (host : ℕ) (unserved misfit : Bool) → Call → (n : ℕ) (answer : List ℕ) → Act
-actOf host a b (OnMask revision) n answer = Others a b (Masks revision) n answer
-actOf host a b OnHealth n answer = Others a b Healths n answer
-actOf host a b (OnThresholds x) n answer = Others a b (Limits x) n answer
-actOf host a b (OnTransfer x) n answer = Transfers host a b x n answer
-actOf host a b (OnSecurity x) n answer = Others a b (Locks x) n answer
-actOf host a b OnNothing n answer = Others a b Nothing n answer
+-- an event, seen from a module: it is asked something, or the other one is; or a tick
+pub data Act : Type 0 where
+  Mine : Doing → Act
+  Theirs : Doing → Act
+  Ticks : Act
+
+abbrev pub doingOf : (host : ℕ) (unserved misfit : Bool) → Call → (n : ℕ) (answer : List ℕ) → Doing
+doingOf host a b (OnMask revision) n answer = Others a b (Masks revision) n answer
+doingOf host a b OnHealth n answer = Others a b Healths n answer
+doingOf host a b (OnThresholds x) n answer = Others a b (Limits x) n answer
+doingOf host a b (OnTransfer x) n answer = Transfers host a b x n answer
+doingOf host a b (OnSecurity x) n answer = Others a b (Locks x) n answer
+doingOf host a b OnNothing n answer = Others a b Nothing n answer
 
 abbrev pub unserved? : (revision index : ℕ) → Bool
 unserved? revision index = not (served? revision (rowOf index)) && not (index =? 0)
@@ -77,11 +117,23 @@ unserved? revision index = not (served? revision (rowOf index)) && not (index =?
 abbrev pub misfit? : (index : ℕ) (request : List ℕ) → Bool
 misfit? index request = not (fits? (rowOf index) request)
 
-abbrev pub act : Event → Act
-act (call host revision index request answer) = actOf host (unserved? revision index) (misfit? index request) (callIn revision index request) (rowOf index .answer) answer
-act tick = Ticks
-act power = Powers
-act (reading new) = Reads new
+-- whose it is: `first` tells from which module it is seen
+abbrev pub mine? : (first : Bool) (named : ℕ) → Bool
+mine? first named = if first then named =? 0 else not (named =? 0)
+
+abbrev pub toward : (mine : Bool) → Doing → Act
+toward true d = Mine d
+toward false d = Theirs d
+
+abbrev pub callDoing : (host revision index : ℕ) (request answer : List ℕ) → Doing
+callDoing host revision index request answer =
+    doingOf host (unserved? revision index) (misfit? index request) (callIn revision index request) (rowOf index .answer) answer
+
+abbrev pub act : (first : Bool) → Event → Act
+act first (call host named revision index request answer) = toward (mine? first named) (callDoing host revision index request answer)
+act first tick = Ticks
+act first (power named) = toward (mine? first named) Powers
+act first (reading named new) = toward (mine? first named) (Reads new)
 
 abbrev pub front : (unserved misfit : Bool) → List Check
 front a b = (a gives Status 1 0) ∷ (b gives Status 3 0) ∷ []
@@ -93,28 +145,29 @@ answerBy (Refused (R number)) n bytes answer = record { reply = reply (Refused (
 answerBy (Refused (Status status ext)) n bytes answer =
     record { reply = reply (Refused (Status status ext)) (statusLength status n); buffer = answerAfter (statusAnswer status ext n) answer }
 
--- a transfer call
-abbrev pub partVerdict : TransferPart → (unserved misfit : Bool) → TransferCall → Verdict
-partVerdict s a b x = verdict (front a b ++ transferChecks (s .transfer) x)
+-- a transfer call, where the area is taken or not
+abbrev pub partVerdict : (taken : Bool) → TransferPart → (unserved misfit : Bool) → TransferCall → Verdict
+partVerdict k p a b x = verdict (front a b ++ transferChecks (p .transfer) (p .given) k x)
 
 abbrev pub partChange : TransferPart → TransferCall → TransferPart
-partChange s x = record { transfer = transferChange (s .transfer) x; area = transferArea x (s .area) }
+partChange p x =
+    record { transfer = transferChange (p .transfer) (p .given) x; given = givenAfter (p .given) x; area = transferArea x (p .area) }
 
 abbrev pub partAfter : Verdict → TransferPart → TransferCall → TransferPart
-partAfter Accepted s x = partChange s x
-partAfter (Refused refusal) s x = s
+partAfter Accepted p x = partChange p x
+partAfter (Refused refusal) p x = p
 
-abbrev pub partAnswer : TransferPart → (unserved misfit : Bool) (x : TransferCall) (n : ℕ) (answer : List ℕ) → Answer
-partAnswer s a b x n answer = answerBy (partVerdict s a b x) n (statusBytes 0 0 ++ transferAnswer (s .transfer) x) answer
+abbrev pub partAnswer : (taken : Bool) → TransferPart → (unserved misfit : Bool) (x : TransferCall) (n : ℕ) (answer : List ℕ) → Answer
+partAnswer k p a b x n answer = answerBy (partVerdict k p a b x) n (statusBytes 0 0 ++ transferAnswer (p .transfer) (p .given) x) answer
 
-abbrev pub partNext : TransferPart → (unserved misfit : Bool) → TransferCall → TransferPart
-partNext s a b x = partAfter (partVerdict s a b x) s x
+abbrev pub partNext : (taken : Bool) → TransferPart → (unserved misfit : Bool) → TransferCall → TransferPart
+partNext k p a b x = partAfter (partVerdict k p a b x) p x
 
 abbrev pub partTick : TransferPart → TransferPart
-partTick s = record { transfer = tickChange (s .transfer) (s .area); area = s .area }
+partTick p = p with-part tickChange (p .transfer) (p .area)
 
 abbrev pub partPower : TransferPart → TransferPart
-partPower s = record { transfer = transferPower (s .transfer); area = s .area }
+partPower p = p with-part transferPower (p .transfer)
 
 -- a call on the rest
 abbrev pub restChecks : Rest → RestCall → List Check
@@ -167,31 +220,44 @@ restRead (Refused refusal) r new = r
 abbrev pub readAnswer : Verdict → Answer
 readAnswer v = record { reply = reply v 0; buffer = [] }
 
--- the whole
 abbrev pub done : Answer
 done = record { reply = reply Accepted 0; buffer = [] }
 
-abbrev pub answers : Module → Act → Answer
-answers m (Transfers host a b x n answer) = partAnswer (partOf m) a b x n answer
-answers m (Others a b x n answer) = restAnswer (restOf m) a b x n answer
-answers m Ticks = done
-answers m Powers = done
-answers m (Reads new) = readAnswer (readVerdict new)
+-- what a module answers and does
+abbrev pub told : Seen → Doing → Answer
+told s (Transfers host a b x n answer) = partAnswer (taken s) (partOf s) a b x n answer
+told s (Others a b x n answer) = restAnswer (restOf s) a b x n answer
+told s Powers = done
+told s (Reads new) = readAnswer (readVerdict new)
 
-abbrev pub nexts : Module → Act → Module
-nexts m (Transfers host a b x n answer) = join (partNext (partOf m) a b x) (restOf m)
-nexts m (Others a b x n answer) = join (partOf m) (restNext (restOf m) a b x)
-nexts m Ticks = join (partTick (partOf m)) (restOf m)
-nexts m Powers = join (partPower (partOf m)) (restPower (restOf m))
-nexts m (Reads new) = join (partOf m) (restRead (readVerdict new) (restOf m) new)
+abbrev pub does : Seen → Doing → Seen
+does s (Transfers host a b x n answer) = s with-its-part partNext (taken s) (partOf s) a b x
+does s (Others a b x n answer) = s with-its-rest restNext (restOf s) a b x
+does s Powers = s with-its-part partPower (partOf s) with-its-rest restPower (restOf s)
+does s (Reads new) = s with-its-rest restRead (readVerdict new) (restOf s) new
 
-abbrev pub inner : Machine Module Event Answer
-inner = record { answer = λ m event. answers m (act event); next = λ m event. nexts m (act event) }
+-- the whole
+abbrev pub answers : Seen → Act → Answer
+answers s (Mine d) = told s d
+answers s (Theirs d) = told (turned s) d
+answers s Ticks = done
+
+abbrev pub nexts : Seen → Act → Seen
+nexts s (Mine d) = does s d
+nexts s (Theirs d) = turned (does (turned s) d)
+nexts s Ticks = record { own = deviceTicked (s .area) (s .own); other = deviceTicked (s .area) (s .other); given = s .given; area = s .area }
+
+abbrev pub inner : (first : Bool) → Machine Seen Event Answer
+inner first = record { answer = λ s event. answers s (act first event); next = λ s event. nexts s (act first event) }
 
 -- what an act is to the transfers
-abbrev pub actKind : Act → Answer → Kind
-actKind (Transfers host a b x n answer) got = callKind host (OnTransfer x) got
-actKind (Others a b x n answer) got = Other
-actKind Ticks got = Ticked
-actKind Powers got = Powered
-actKind (Reads new) got = Other
+abbrev pub doingKind : (named : ℕ) → Doing → Answer → Kind
+doingKind named (Transfers host a b x n answer) got = callKind named host (OnTransfer x) got
+doingKind named (Others a b x n answer) got = Other
+doingKind named Powers got = Powered named
+doingKind named (Reads new) got = Other
+
+abbrev pub actKind : (first : Bool) → Act → Answer → Kind
+actKind first (Mine d) got = doingKind (number first) d got
+actKind first (Theirs d) got = doingKind (number (not first)) d got
+actKind first Ticks got = Ticked

@@ -5,16 +5,16 @@ use mathlib.Core.{Path.{_≡_, refl, sym, _∙_, ap, subst}, Logic._↔_, Bool.{
 use native.Mathlib.Omega.{arith}
 use lib.ListN.{length, getD, set}
 use borrow.Author.Tests.{leb-true}
-use Rattle.rules.specs.{Tests.{if_then_else_, _≤?_, _=?_}, Bytes.zeros, Numbers.answerRoom, Record.Module, Table.rowOf, Refusals.verdict}
-use Rattle.rules.specs.Module.{Call, callOf, checks, gateChecks, callChecks, callResult, outcome}
-use Rattle.rules.specs.Log.{recordSize, kindIn, hostIn, revisionIn, functionIn, lengthIn, requestIn, padded, goodCall, bare, spareIn, mediaIn, controllerIn, goodReading, entryOf, recordsIn, recordAt, shortTail}
-use Rattle.rules.specs.{Replay.{replayStart, replayCall, moduleAfter, printedStatus}, History.{All, total}}
+use Rattle.rules.specs.{Tests.{if_then_else_, _≤?_, _=?_}, Bytes.zeros, Numbers.answerRoom, Record.{Whole, standing}, Table.rowOf, Refusals.verdict}
+use Rattle.rules.specs.{Module.{Call, callOf, checks}, Cabinet.{gateChecks, callChecks, callResult, outcome}}
+use Rattle.rules.specs.Log.{recordSize, kindIn, namedIn, hostIn, revisionIn, functionIn, lengthIn, requestIn, padded, goodCall, bare, goodPower, spareIn, mediaIn, controllerIn, goodReading, entryOf, recordsIn, recordAt, shortTail}
+use Rattle.rules.specs.{Replay.{replayStart, replayCall, wholeAfter, printedStatus}, History.{All, total}}
 use Rattle.rules.specs.Report.{Report, nothingCounted, Counted, answered, masked, countedAs, raisedAt, raisedCell, raised, reportAfter, countTo, ifCall, ifTick, ifPower, ifBad, gridSum, Sums, addedRow, addedGrid, withLog, fits, fedIf, feed, fedNext, AllTaken, reportOf, _plus_, Reported, NoneAbove, RequestT01, ifReading}
 use Rattle.rules.specs.declared.Function.{Function}
 use Rattle.rules.specs.declared.Function.the-variants.{Mask, GetHealth, GetThreshold, GetFwInfo, Start, Send, Finish, Query, SetThreshold, GetSecurityState, SetPassphrase, Disable, Unlock, Freeze, Unserved}
 use Rattle.rules.specs.{declared.Refusal.the-variants.{R, Status}, declared.Verdict.Verdict, declared.Verdict.the-variants.{Accepted, Refused}}
 use Rattle.rules.specs.declared.Entry.{Entry}
-use Rattle.rules.proofs.{page.Choice.and-true, page.Passed.{every, by-rows}, page.Counting.{Shaped, shaped-nothing, shaped-after, counted, shaped-log}}
+use Rattle.rules.proofs.{page.Choice.{and-true, and-5}, page.Passed.{every, by-rows}, page.Counting.{Shaped, shaped-nothing, shaped-after, counted, shaped-log}}
 use Rattle.rules.proofs.page.Reports.{taken-report, fits-taken, together, shaped-together, is-together, any-order, each-list, two-lists, two-machines}
 use Rattle.rules.proofs.page.NoneAbove.{fits-exactly}
 use Rattle.rules.specs.declared.Entry.the-variants as Entry′
@@ -24,30 +24,28 @@ pub record GoodHost (host : ℕ) : Type 0 where
   pub least : 1 ≤ host
   pub most : host ≤ 4
 
-abbrev callOr : (good : Bool) (host revision index size : ℕ) (other : Entry) → Entry
-callOr good host revision index size other = if good then Entry′.Call host revision index size else other
+abbrev callOr : (good : Bool) (named host revision index size : ℕ) (other : Entry) → Entry
+callOr good named host revision index size other = if good then Entry′.Call named host revision index size else other
 
 unfoldable pub hosts-of : Entry → Type 0
-hosts-of (Entry′.Call host revision index size) = GoodHost host
+hosts-of (Entry′.Call named host revision index size) = GoodHost host
 hosts-of Entry′.Tick = Unit {0}
-hosts-of Entry′.Power = Unit {0}
-hosts-of (Entry′.Health spare media controller) = Unit {0}
+hosts-of (Entry′.Power named) = Unit {0}
+hosts-of (Entry′.Health named spare media controller) = Unit {0}
 hosts-of Entry′.Bad = Unit {0}
 
 pub good-hosts : (bytes : List ℕ) → hosts-of (entryOf bytes)
 unfolding entryOf hosts-of
-good-hosts bytes = go (not (length bytes =? recordSize)) (kindIn bytes =? 1 && goodCall bytes) refl (kindIn bytes =? 2 && bare bytes) (kindIn bytes =? 3 && bare bytes) (kindIn bytes =? 4 && goodReading bytes)
+good-hosts bytes = go (not (length bytes =? recordSize)) (kindIn bytes =? 1 && goodCall bytes) refl (kindIn bytes =? 2 && bare bytes) (kindIn bytes =? 3 && goodPower bytes) (kindIn bytes =? 4 && goodReading bytes)
   where
     within : (kindIn bytes =? 1 && goodCall bytes) ≡ true → GoodHost (hostIn bytes)
     within e =
         let good = and-true (kindIn bytes =? 1) (goodCall bytes) e .1 in
-        let long = and-true ((1 ≤? hostIn bytes) && (hostIn bytes ≤? 4) && (lengthIn bytes ≤? 536)) (padded bytes) good .0 in
-        let host = and-true ((1 ≤? hostIn bytes) && (hostIn bytes ≤? 4)) (lengthIn bytes ≤? 536) long .0 in
-        let two = and-true (1 ≤? hostIn bytes) (hostIn bytes ≤? 4) host in
+        let two = and-5 (1 ≤? hostIn bytes) (hostIn bytes ≤? 4) (namedIn bytes ≤? 1) (lengthIn bytes ≤? 536) (padded bytes) good in
         record { least = leb-true 1 (hostIn bytes) (two .0); most = leb-true (hostIn bytes) 4 (two .1) }
 
     go : (a b : Bool) → (kindIn bytes =? 1 && goodCall bytes) ≡ b → (c d h : Bool)
-        → hosts-of (if a then Entry′.Bad else callOr b (hostIn bytes) (revisionIn bytes) (functionIn bytes) (lengthIn bytes) (if c then Entry′.Tick else if d then Entry′.Power else if h then Entry′.Health (spareIn bytes) (mediaIn bytes) (controllerIn bytes) else Entry′.Bad))
+        → hosts-of (if a then Entry′.Bad else callOr b (namedIn bytes) (hostIn bytes) (revisionIn bytes) (functionIn bytes) (lengthIn bytes) (if c then Entry′.Tick else if d then Entry′.Power (namedIn bytes) else if h then Entry′.Health (namedIn bytes) (spareIn bytes) (mediaIn bytes) (controllerIn bytes) else Entry′.Bad))
     go true b e c d h = tt
     go false true e c d h = within e
     go false false e true d h = tt
@@ -66,37 +64,37 @@ small-printed Accepted e = omega arith
 small-printed (Refused (R number)) e = leb-true number 11 e
 small-printed (Refused (Status status ext)) e = leb-true status 11 e
 
-small-outcome : (v : Verdict) (m : Module) (call : Call) (n : ℕ) (answer : List ℕ) → small v ≡ true → small (outcome v m call n answer .reply .verdict) ≡ true
-small-outcome Accepted m call n answer e = e
-small-outcome (Refused (R number)) m call n answer e = e
-small-outcome (Refused (Status status ext)) m call n answer e = e
+small-outcome : (v : Verdict) (w : Whole) (named : ℕ) (call : Call) (n : ℕ) (answer : List ℕ) → small v ≡ true → small (outcome v w named call n answer .reply .verdict) ≡ true
+small-outcome Accepted w named call n answer e = e
+small-outcome (Refused (R number)) w named call n answer e = e
+small-outcome (Refused (Status status ext)) w named call n answer e = e
 
-small-rows : (m : Module) (f : Function) (revision index : ℕ) (request answer : List ℕ)
-    → every small (gateChecks m revision index request answer ++ checks m (callOf f revision request)) ≡ true
-small-rows m Mask revision index request answer = refl
-small-rows m GetHealth revision index request answer = refl
-small-rows m GetThreshold revision index request answer = refl
-small-rows m GetFwInfo revision index request answer = refl
-small-rows m Start revision index request answer = refl
-small-rows m Send revision index request answer = refl
-small-rows m Finish revision index request answer = refl
-small-rows m Query revision index request answer = refl
-small-rows m SetThreshold revision index request answer = refl
-small-rows m GetSecurityState revision index request answer = refl
-small-rows m SetPassphrase revision index request answer = refl
-small-rows m Disable revision index request answer = refl
-small-rows m Unlock revision index request answer = refl
-small-rows m Freeze revision index request answer = refl
-small-rows m Unserved revision index request answer = refl
+small-rows : (w : Whole) (named : ℕ) (f : Function) (revision index : ℕ) (request answer : List ℕ)
+    → every small (gateChecks w named revision index request answer ++ checks (standing named w) (callOf f revision request)) ≡ true
+small-rows w named Mask revision index request answer = refl
+small-rows w named GetHealth revision index request answer = refl
+small-rows w named GetThreshold revision index request answer = refl
+small-rows w named GetFwInfo revision index request answer = refl
+small-rows w named Start revision index request answer = refl
+small-rows w named Send revision index request answer = refl
+small-rows w named Finish revision index request answer = refl
+small-rows w named Query revision index request answer = refl
+small-rows w named SetThreshold revision index request answer = refl
+small-rows w named GetSecurityState revision index request answer = refl
+small-rows w named SetPassphrase revision index request answer = refl
+small-rows w named Disable revision index request answer = refl
+small-rows w named Unlock revision index request answer = refl
+small-rows w named Freeze revision index request answer = refl
+small-rows w named Unserved revision index request answer = refl
 
-pub status-most : (m : Module) (revision index : ℕ) (request : List ℕ) → printedStatus (replayCall m revision index request .reply .verdict) ≤ 11
+pub status-most : (w : Whole) (named revision index : ℕ) (request : List ℕ) → printedStatus (replayCall w named revision index request .reply .verdict) ≤ 11
 unfolding callResult
-status-most m revision index request =
+status-most w named revision index request =
     let answer : List ℕ = zeros answerRoom in
-    let rows = callChecks m revision index request answer in
-    small-printed (callResult m revision index request answer .reply .verdict)
-    (small-outcome (verdict rows) m (callOf (rowOf index .function) revision request) (rowOf index .answer) answer
-    (by-rows small rows (small-rows m (rowOf index .function) revision index request answer)))
+    let rows = callChecks w named revision index request answer in
+    small-printed (callResult w named revision index request answer .reply .verdict)
+    (small-outcome (verdict rows) w named (callOf (rowOf index .function) revision request) (rowOf index .answer) answer
+    (by-rows small rows (small-rows w named (rowOf index .function) revision index request answer)))
 
 -- one count of a list changed
 total-set : {X : Type 0} (count : X → ℕ) (l : List X) (i : ℕ) (x d : X) → i < length l → total count (set l i x) + count (getD l i d) ≡ total count l + count x
@@ -133,21 +131,21 @@ record Step (r : Report) (x : Counted) (entry : Entry) : Type 0 where
   bads : raised x r .counts .bads ≡ r .counts .bads + ifBad entry
   shorts : raised x r .counts .shorts ≡ r .counts .shorts
 
-counted-call : (r : Report) (zero? : Bool) (host status revision index size : ℕ) → Shaped (r .grid) → GoodHost host → status ≤ 11
-    → Step r (if zero? then masked else answered host status) (Entry′.Call host revision index size)
-counted-call r true host status revision index size s g k = record { calls = omega arith; ticks = omega arith; powers = omega arith; readings = omega arith; bads = omega arith; shorts = refl }
-counted-call r false host status revision index size s g k =
+counted-call : (r : Report) (zero? : Bool) (named host status revision index size : ℕ) → Shaped (r .grid) → GoodHost host → status ≤ 11
+    → Step r (if zero? then masked else answered host status) (Entry′.Call named host revision index size)
+counted-call r true named host status revision index size s g k = record { calls = omega arith; ticks = omega arith; powers = omega arith; readings = omega arith; bads = omega arith; shorts = refl }
+counted-call r false named host status revision index size s g k =
     let e = sum-cell (r .grid) host status s g k in
     record { calls = omega arith; ticks = omega arith; powers = omega arith; readings = omega arith; bads = omega arith; shorts = refl }
 
-step : (r : Report) (m : Module) (entry : Entry) (request : List ℕ) → Shaped (r .grid) → hosts-of entry → Step r (countedAs m entry request) entry
+step : (r : Report) (w : Whole) (entry : Entry) (request : List ℕ) → Shaped (r .grid) → hosts-of entry → Step r (countedAs w entry request) entry
 unfolding hosts-of
-step r m (Entry′.Call host revision index size) request s g = counted-call r (index =? 0) host _ revision index size s g (status-most m revision index request)
-step r m Entry′.Tick request s g = record { calls = omega arith; ticks = refl; powers = omega arith; readings = omega arith; bads = omega arith; shorts = refl }
-step r m Entry′.Power request s g = record { calls = omega arith; ticks = omega arith; powers = refl; readings = omega arith; bads = omega arith; shorts = refl }
-step r m (Entry′.Health spare media controller) request s g =
+step r w (Entry′.Call named host revision index size) request s g = counted-call r (index =? 0) named host _ revision index size s g (status-most w named revision index request)
+step r w Entry′.Tick request s g = record { calls = omega arith; ticks = refl; powers = omega arith; readings = omega arith; bads = omega arith; shorts = refl }
+step r w (Entry′.Power named) request s g = record { calls = omega arith; ticks = omega arith; powers = refl; readings = omega arith; bads = omega arith; shorts = refl }
+step r w (Entry′.Health named spare media controller) request s g =
     record { calls = omega arith; ticks = omega arith; powers = omega arith; readings = refl; bads = omega arith; shorts = refl }
-step r m Entry′.Bad request s g = record { calls = omega arith; ticks = omega arith; powers = omega arith; readings = omega arith; bads = refl; shorts = refl }
+step r w Entry′.Bad request s g = record { calls = omega arith; ticks = omega arith; powers = omega arith; readings = omega arith; bads = refl; shorts = refl }
 
 -- the first j records of a log
 record SumsTo (r : Report) (log : List ℕ) (j : ℕ) : Type 0 where
@@ -158,12 +156,12 @@ record SumsTo (r : Report) (log : List ℕ) (j : ℕ) : Type 0 where
   bads : r .counts .bads ≡ countTo ifBad log j
   shorts : r .counts .shorts ≡ 0
 
-sums-to : (m : Module) (log : List ℕ) (j : ℕ) → SumsTo (reportAfter nothingCounted m log j) log j
+sums-to : (w : Whole) (log : List ℕ) (j : ℕ) → SumsTo (reportAfter nothingCounted w log j) log j
 unfolding reportAfter countTo
-sums-to m log zero = record { calls = refl; ticks = refl; powers = refl; readings = refl; bads = refl; shorts = refl }
-sums-to m log (suc j) =
-    let before = sums-to m log j in
-    let one = step (reportAfter nothingCounted m log j) (moduleAfter m log j) (entryOf (recordAt log j)) (requestIn (recordAt log j)) (shaped-after nothingCounted m log j shaped-nothing) (good-hosts (recordAt log j)) in
+sums-to w log zero = record { calls = refl; ticks = refl; powers = refl; readings = refl; bads = refl; shorts = refl }
+sums-to w log (suc j) =
+    let before = sums-to w log j in
+    let one = step (reportAfter nothingCounted w log j) (wholeAfter w log j) (entryOf (recordAt log j)) (requestIn (recordAt log j)) (shaped-after nothingCounted w log j shaped-nothing) (good-hosts (recordAt log j)) in
     record {
       calls = omega (arith, before .calls, one .calls);
       ticks = omega (arith, before .ticks, one .ticks);
