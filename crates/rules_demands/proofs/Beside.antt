@@ -1,48 +1,49 @@
 -- What is written out beside the demands follows from rules' theorems.
 -- Assumes nothing.
-use Prim.Native.Nat.{ℕ}
-use mathlib.Core.{Path.{_≡_, refl, sym, _∙_, ap, subst}, Logic.{_⊎_, inl, inr}, Bool.{Bool, true, false, _&&_, _||_}, List.List}
-use lib.ListN.{drop}
-use borrow.Author.Tests.{eqb-true, eq-eqb}
-use Rattle.rules.{specs.Tests.{if_then_else_, _=?_}, specs.Bytes.numberAt, specs.Record.{Module, _is_}}
-use Rattle.rules.{specs.Security.{GetSecurityState, SetPassphrase, Disable, Unlock, Freeze}, specs.Module.{call, tick, power, reading, step}}
-use Rattle.rules.{specs.Transfers.{machine, Sent, Finished, Other}, specs.Beside.{NoSend, AreaStays, lastReading, LastKept, FrozenFirst, TakenOver}, specs.declared.Phase.Phase}
-use Rattle.rules.{specs.declared.Phase.the-variants.Staged, specs.declared.Security.Security, specs.declared.Verdict.Verdict}
-use Rattle.rules.{specs.declared.Verdict.the-variants.{Accepted, Refused}, proofs.page.Choice.{if-both, or-true}}
-use Rattle.rules_demands.specs.{Words.answeredAs, Beside.{AreaWrittenOut, LastWrittenOut, FrozenWrittenOut, BesideWrittenOut}}
-use Rattle.rules_demands.proofs.Words.{kind-event}
+use Prim.Native.Nat.{ℕ, _≤_}
+use mathlib.Core.{Path.{_≡_, refl, _∙_, ap}, Logic.{_⊎_, inl, inr}, Bool.{Bool, true, _&&_, _||_}, List.List}
+use borrow.Author.Tests.{eq-eqb, ne-eqb}
+use Rattle.rules.{specs.Tests.{if_then_else_, _=?_}, specs.Record.{Whole, deviceOf, _is_}, specs.Refusals.refused?, specs.Table.{table, rowOf}}
+use Rattle.rules.{specs.Security.{GetSecurityState, SetPassphrase, Disable, Unlock, Freeze}, specs.Module.{callOf, callIn}, specs.Cabinet.{call, tick, power, reading, step}}
+use Rattle.rules.{specs.Transfers.{machine, Answer, Kind, callKind, ifAccepted}, specs.Beside.{NoSend, AreaStays, lastReading, LastKept, FrozenFirst, TakenOver}}
+use Rattle.rules.{specs.declared.Phase.Phase, specs.declared.Phase.the-variants.Staged, specs.declared.Row.Row, specs.declared.Security.Security, specs.declared.Refusal.Refusal}
+use Rattle.rules.{specs.declared.Verdict.Verdict, specs.declared.Verdict.the-variants.{Accepted, Refused}, specs.declared.Reading.Reading, proofs.page.Choice.{if-both, or-true}}
+use Rattle.rules_demands.specs.Beside.{AreaWrittenOut, LastWrittenOut, FrozenWrittenOut, BesideWrittenOut}
+use Rattle.rules_demands.proofs.Places.{looked-at}
 
 -- no Send: another function, or a refused call
-no-send : (host revision index : ℕ) (request lent buffer : List ℕ) (v : Verdict) → (index ≡ 14 → ⊥)
-    → NoSend (answeredAs (call host revision index request lent) v buffer)
-no-send host revision index request lent buffer Accepted other = if-both NoSend (index =? 13) tt (go (index =? 14) refl)
-  where
-    go : (b : Bool) → (index =? 14) ≡ b
-        → NoSend (if b then Sent host (numberAt 4 0 request) (numberAt 4 4 request) (drop 12 request) else if index =? 15 then Finished host (numberAt 4 4 request) (numberAt 1 0 request) else Other)
-    go true e = absurd (other (eqb-true index 14 e))
-    go false e = if-both NoSend (index =? 15) tt tt
-no-send host revision index request lent buffer (Refused refusal) other = tt
+module _ (named host revision : ℕ) (request : List ℕ) (got : Answer) where
+  other-function : (index : ℕ) → (index ≡ 14 → ⊥) → NoSend (callKind named host (callIn revision index request) got)
+  unfolding rowOf
+  other-function index =
+      looked-at (λ (i : ℕ) (r : Row). (i ≡ 14 → ⊥) → NoSend (callKind named host (callOf (r .function) revision request) got)) index table
+      (λ o. tt, (λ o. tt, (λ o. tt, (λ o. tt, (λ o. if-both NoSend (refused? (got .reply .verdict)) tt tt, (λ o. absurd (o refl), (λ o. if-both NoSend (refused? (got .reply .verdict)) tt tt, (λ o. tt, (λ o. tt, (λ o. tt, (λ o. tt, (λ o. tt, (λ o. tt, (λ o. tt, tt))))))))))))))
+      (λ lacks o. tt)
 
-area-written : AreaStays → (m : Module) → AreaWrittenOut m
-area-written stays m =
+  module _ (refusal : Refusal) (e : got .reply .verdict ≡ Refused refusal) where
+    none-accepted : (kind : Kind) → NoSend (ifAccepted got kind)
+    none-accepted kind = rw e tt
+
+    refused-call : (index : ℕ) → NoSend (callKind named host (callIn revision index request) got)
+    unfolding rowOf
+    refused-call index =
+        looked-at (λ (i : ℕ) (r : Row). NoSend (callKind named host (callOf (r .function) revision request) got)) index table
+        (tt, (tt, (tt, (tt, (none-accepted _, (none-accepted _, (none-accepted _, (tt, (tt, (tt, (tt, (tt, (tt, (tt, tt))))))))))))))
+        (λ lacks. tt)
+
+area-written : AreaStays → (w : Whole) → AreaWrittenOut w
+area-written stays w =
     record {
-      over-a-tick = stays m tick tt;
-      over-a-power-cycle = stays m power tt;
-      over-a-reading = λ new. stays m (reading new) tt;
-      over-other-functions = λ host revision index request buffer other.
-          by-kind host revision index request buffer
-          (no-send host revision index request buffer (step m (call host revision index request buffer) .answer) (step m (call host revision index request buffer) .reply .verdict) other);
-      over-refusals = λ host revision index request buffer refusal e.
-          by-kind host revision index request buffer
-          (subst (λ (v : Verdict). NoSend (answeredAs (call host revision index request buffer) v (step m (call host revision index request buffer) .answer))) (sym e) tt);
+      over-a-tick = stays w tick tt;
+      over-a-power-cycle = λ named. stays w (power named) tt;
+      over-a-reading = λ named new. stays w (reading named new) tt;
+      over-other-functions = λ host named revision index request buffer other.
+          let event = call host named revision index request buffer in
+          stays w event (other-function named host revision request (machine .answer w event) index other);
+      over-refusals = λ host named revision index request buffer refusal e.
+          let event = call host named revision index request buffer in
+          stays w event (refused-call named host revision request (machine .answer w event) refusal e index);
     }
-  where
-    by-kind : (host revision index : ℕ) (request buffer : List ℕ)
-        → NoSend (answeredAs (call host revision index request buffer) (step m (call host revision index request buffer) .reply .verdict) (step m (call host revision index request buffer) .answer))
-        → step m (call host revision index request buffer) .after .area ≡ m .area
-    by-kind host revision index request buffer n =
-        let event = call host revision index request buffer in
-        stays m event (subst NoSend (sym (kind-event event (machine .answer m event))) n)
 
 first-true : (a b : Bool) → a ≡ true → (a || b) ≡ true
 first-true a b e = ap (λ (t : Bool). t || b) e
@@ -61,14 +62,23 @@ frozen-written first s either =
     forbids (inl e) = first-true (s .frozen) (s .attempts =? 10) e
     forbids (inr e) = or-true (s .frozen) (s .attempts =? 10) (eq-eqb (s .attempts) 10 e)
 
-last-written : LastKept → (m : Module) → LastWrittenOut m
-last-written kept m =
+-- a reading of the other module, whatever its verdict
+other-reading : (own : ℕ) (w : Whole) (named : ℕ) (new : Reading) → (named ≡ own → ⊥) → (v : Verdict) → lastReading own w (reading named new) v ≡ deviceOf own (w .cabinet) .reading
+other-reading own w named new other Accepted = ap (λ (b : Bool). if b then new else deviceOf own (w .cabinet) .reading) (ne-eqb named own other)
+other-reading own w named new other (Refused refusal) = refl
+
+last-written : LastKept → (own : ℕ) → own ≤ 1 → (w : Whole) → LastWrittenOut own w
+last-written kept own l w =
     record {
-      stays-over-a-tick = kept m tick;
-      stays-over-power = kept m power;
-      stays-over-a-call = λ host revision index request buffer. kept m (call host revision index request buffer);
-      stays-where-refused = λ new refusal e. kept m (reading new) ∙ ap (lastReading m (reading new)) e;
-      new-where-accepted = λ new e. kept m (reading new) ∙ ap (lastReading m (reading new)) e;
+      stays-over-a-tick = kept own l w tick;
+      stays-over-power = λ named. kept own l w (power named);
+      stays-over-a-call = λ host named revision index request buffer. kept own l w (call host named revision index request buffer);
+      stays-where-refused = λ named new refusal e. kept own l w (reading named new) ∙ ap (lastReading own w (reading named new)) e;
+      stays-over-the-other = λ named new other. kept own l w (reading named new) ∙ other-reading own w named new other (step w (reading named new) .reply .verdict);
+      new-where-accepted = λ new e.
+          kept own l w (reading own new)
+          ∙ ap (lastReading own w (reading own new)) e
+          ∙ ap (λ (b : Bool). if b then new else deviceOf own (w .cabinet) .reading) (eq-eqb own own refl);
     }
 
 pub written-out : AreaStays → LastKept → FrozenFirst → TakenOver → BesideWrittenOut
@@ -77,7 +87,8 @@ written-out stays kept first taken =
       area = area-written stays;
       last-reading = last-written kept;
       frozen = frozen-written first;
-      taken-over = λ m possible fits size staged.
-          taken m (m .device .transfer .staged) (record { record-possible = possible; contexts-fit = fits; area-size = size })
-          (ap (λ (p : Phase). p is Staged && m .device .transfer .staged =? m .device .transfer .staged) staged ∙ eq-eqb (m .device .transfer .staged) (m .device .transfer .staged) refl);
+      taken-over = λ named l w possible fits size staged.
+          let version = deviceOf named (w .cabinet) .transfer .staged in
+          taken named l w version (record { record-possible = possible; contexts-fit = fits; area-size = size })
+          (ap (λ (p : Phase). p is Staged && version =? version) staged ∙ eq-eqb version version refl);
     }

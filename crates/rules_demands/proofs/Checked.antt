@@ -4,8 +4,8 @@ use Prim.Native.Nat.{ℕ, _≤_}
 use mathlib.Core.{Path.{_≡_, refl, sym, _∙_, ap, subst}, Logic.{_↔_, inl, inr}, Bool.{Bool, true, false, _&&_, _||_, false≢true}, List.{List, [], _∷_}}
 use lib.ListN.{length}
 use borrow.Author.Tests.{eqb-true, eq-eqb, leb-true, le-leb}
-use Rattle.rules.{specs.Tests.{_=?_, _≤?_, _implies_}, specs.Bytes.numberAt, specs.Table.{table, rowOf}, specs.Module.{Event, call, tick, power, reading, callOf, callIn}}
-use Rattle.rules.{specs.Transfers.{History, Kind, Started, Sent, Finished, Ticked, Powered, Other}, specs.Hosts.{Carries, Uses, AnsweredTo, HonestAfter, Honest}}
+use Rattle.rules.{specs.Tests.{_=?_, _≤?_, _implies_}, specs.Bytes.numberAt, specs.Table.{table, rowOf}, specs.Module.{callOf, callIn}, specs.Cabinet.{Event, call, tick, power, reading}}
+use Rattle.rules.{specs.Transfers.{History, Kind, Started, Sent, Finished, Ticked, Powered, Other}, specs.Hosts.{Carries, Uses, Answers, AnsweredTo, HonestAfter, Honest}}
 use Rattle.rules.{specs.declared.Row.Row, proofs.page.Choice.{and-true, or-true}}
 use Rattle.rules_demands.specs.Words.{what, answeredIt, answeredTo, usesOwn, honestAfter, honest?}
 use Rattle.rules_demands.proofs.{Places.looked-at, Words.kind-is}
@@ -28,14 +28,14 @@ implies-when true b f = f refl
 implies-when false b f = refl
 
 -- a Start that answered the context to the host
-answered-it : (host context : ℕ) (k : Kind) → answeredIt host context k ≡ true → k ≡ Started host context
-answered-it host context (Started to given) e =
+answered-it : (host context : ℕ) (k : Kind) → answeredIt host context k ≡ true → (named : ℕ) × (k ≡ Started named host context)
+answered-it host context (Started named to given) e =
     let q = and-true (to =? host) (given =? context) e in
-    ap (λ (n : ℕ). Started n given) (eqb-true to host (q .0)) ∙ ap (Started host) (eqb-true given context (q .1))
-answered-it host context (Sent sender given offset piece) e = absurd (false≢true e)
-answered-it host context (Finished sender given flag) e = absurd (false≢true e)
+    (named, ap (λ (n : ℕ). Started named n given) (eqb-true to host (q .0)) ∙ ap (Started named host) (eqb-true given context (q .1)))
+answered-it host context (Sent named sender given offset piece) e = absurd (false≢true e)
+answered-it host context (Finished named sender given flag) e = absurd (false≢true e)
 answered-it host context Ticked e = absurd (false≢true e)
-answered-it host context Powered e = absurd (false≢true e)
+answered-it host context (Powered named) e = absurd (false≢true e)
 answered-it host context Other e = absurd (false≢true e)
 
 answered-to : (host context : ℕ) (past : History) → answeredTo host context past ≡ true → AnsweredTo host context past
@@ -44,14 +44,14 @@ answered-to host context (x ∷ past) e = go (answeredIt host context (what x)) 
   where
     go : (b : Bool) → answeredIt host context (what x) ≡ b → (b || answeredTo host context past) ≡ true
         → (answeredTo host context past ≡ true → AnsweredTo host context past) → AnsweredTo host context (x ∷ past)
-    go true f q later = inl (kind-is x ∙ answered-it host context (what x) f)
+    go true f q later = let a = answered-it host context (what x) f in inl (a .0, kind-is x ∙ a .1)
     go false f q later = inr (later q)
 
 answered-back : (host context : ℕ) (past : History) → AnsweredTo host context past → answeredTo host context past ≡ true
 answered-back host context [] a = absurd a
 answered-back host context (x ∷ past) (inl e) =
     first-true (answeredIt host context (what x)) (answeredTo host context past)
-    (ap (answeredIt host context) (sym (kind-is x) ∙ e) ∙ both (host =? host) (context =? context) (eq-eqb host host refl) (eq-eqb context context refl))
+    (ap (answeredIt host context) (sym (kind-is x) ∙ e .1) ∙ both (host =? host) (context =? context) (eq-eqb host host refl) (eq-eqb context context refl))
 answered-back host context (x ∷ past) (inr a) =
     or-true (answeredIt host context (what x)) (answeredTo host context past) (answered-back host context past a)
 
@@ -98,12 +98,12 @@ module _ (test : ℕ → Bool) (request : List ℕ) where
       no e k = absurd k
 
 uses-own : (past : History) (event : Event) → usesOwn past event ≡ true → (host context : ℕ) → Uses event host context → AnsweredTo host context past
-uses-own past (call caller revision index request lent) e host context u =
+uses-own past (call caller named revision index request lent) e host context u =
     subst (λ (n : ℕ). AnsweredTo n context past) (sym (u .0))
     (answered-to caller context past (carries-tested (λ c. answeredTo caller c past) request revision index context e (u .1)))
 uses-own past tick e host context u = absurd u
-uses-own past power e host context u = absurd u
-uses-own past (reading new) e host context u = absurd u
+uses-own past (power named) e host context u = absurd u
+uses-own past (reading named new) e host context u = absurd u
 
 carries-at : (revision index : ℕ) (request : List ℕ) (context at : ℕ) → Carries (callIn revision at request) request context → index ≡ at
     → Carries (callIn revision index request) request context
@@ -111,7 +111,7 @@ carries-at revision index request context at k e = subst (λ (i : ℕ). Carries 
 
 uses-back : (past : History) (event : Event) → ((host context : ℕ) → Uses event host context → AnsweredTo host context past) → usesOwn past event ≡ true
 unfolding rowOf
-uses-back past (call caller revision index request lent) own =
+uses-back past (call caller named revision index request lent) own =
     both (index =? 14 || index =? 16 implies (4 ≤? length request implies answeredTo caller (numberAt 4 0 request) past))
     (index =? 15 implies (8 ≤? length request implies answeredTo caller (numberAt 4 4 request) past))
     (implies-when (index =? 14 || index =? 16) (4 ≤? length request implies answeredTo caller (numberAt 4 0 request) past)
@@ -126,8 +126,8 @@ uses-back past (call caller revision index request lent) own =
     early-one true f e l = carries-at revision index request (numberAt 4 0 request) 14 (l, refl) (eqb-true index 14 f)
     early-one false f e l = carries-at revision index request (numberAt 4 0 request) 16 (l, refl) (eqb-true index 16 e)
 uses-back past tick own = refl
-uses-back past power own = refl
-uses-back past (reading new) own = refl
+uses-back past (power named) own = refl
+uses-back past (reading named new) own = refl
 
 honest-after : (past h : History) → honestAfter past h ≡ true → HonestAfter past h
 honest-after past [] e = tt

@@ -4,7 +4,7 @@ use Prim.Native.Nat.{ℕ, _/_, _<_}
 use mathlib.Core.{Path.{_≡_, refl, ap, subst, sym}, Logic.{_↔_, _⊎_, inl, inr}, Bool.{Bool, true, false, _&&_, _||_, false≢true}, List.{List}}
 use native.Mathlib.Omega.{arith}
 use lib.ListN.{length}
-use Rattle.rules.{specs.Bytes.zeros?, specs.Record.{possible, possibleTransfer, possibleSecurity, possibleThresholds, possibleReading, possibleParts, possibleTrips, renewed}, specs.Adopt.{possibleBefore, keptBefore, adoptable, adopted, idleAgain}}
+use Rattle.rules.{specs.Bytes.zeros?, specs.Record.{possible, possibleTransfer, possibleSecurity, possibleThresholds, possibleReading, possibleParts, possibleTrips, renewed}, specs.Adopt.{possibleAlone, possiblePartsAlone, possibleBefore, keptBefore, adoptable, adopted, idleAgain}}
 use Rattle.rules.specs.Fault.{reasonNumber, _of-record_, firstFault, passes, Named, First}
 use Rattle.rules.specs.declared.{Reason.Reason, Reason.the-variants.{Size, Number, Count, Version, Sum}, Device.Device}
 use borrow.Author.Tests.{eq-eqb, eqb-true}
@@ -142,21 +142,21 @@ either true b e = refl
 either false b (inl e) = absurd (false≢true e)
 either false b (inr e) = e
 
-one-of-them : (d : Device) → (possible d ≡ true) ⊎ ((d .trips ≡ 0) × ((possibleParts d ≡ true) ⊎ (possibleBefore d ≡ true))) → adoptable d ≡ true
+one-of-them : (d : Device) → (possibleAlone d ≡ true) ⊎ ((d .trips ≡ 0) × ((possiblePartsAlone d ≡ true) ⊎ (possibleBefore d ≡ true))) → adoptable d ≡ true
 unfolding keptBefore
-one-of-them d (inl e) = either (possible d) (keptBefore d) (inl e)
+one-of-them d (inl e) = either (possibleAlone d) (keptBefore d) (inl e)
 one-of-them d (inr h) =
-    either (possible d) (d .trips =? 0 && (possibleParts d || possibleBefore d)) (inr (rw (eq-eqb (d .trips) 0 (h .0)) (either (possibleParts d) (possibleBefore d) (h .1))))
+    either (possibleAlone d) (d .trips =? 0 && (possiblePartsAlone d || possibleBefore d)) (inr (rw (eq-eqb (d .trips) 0 (h .0)) (either (possiblePartsAlone d) (possibleBefore d) (h .1))))
 
 or-true : (a b : Bool) → (a || b) ≡ true → (a ≡ true) ⊎ (b ≡ true)
 or-true true b e = inl refl
 or-true false b e = inr e
 
-no-byte : (d : Device) → adoptable d ≡ true → possible d ≡ false → (d .trips ≡ 0) × ((possibleParts d ≡ true) ⊎ (possibleBefore d ≡ true))
+no-byte : (d : Device) → adoptable d ≡ true → possibleAlone d ≡ false → (d .trips ≡ 0) × ((possiblePartsAlone d ≡ true) ⊎ (possibleBefore d ≡ true))
 unfolding keptBefore
 no-byte d e p =
-    let both = and-true (d .trips =? 0) (possibleParts d || possibleBefore d) (rw p at e) in
-    (eqb-true (d .trips) 0 (both .0), or-true (possibleParts d) (possibleBefore d) (both .1))
+    let both = and-true (d .trips =? 0) (possiblePartsAlone d || possibleBefore d) (rw p at e) in
+    (eqb-true (d .trips) 0 (both .0), or-true (possiblePartsAlone d) (possibleBefore d) (both .1))
 
 idle : (d taken : Device) → taken ≡ renewed (idleAgain d) → IdleWithAllElse d taken
 idle d taken e =
@@ -164,7 +164,7 @@ idle d taken e =
     (record {
       idle = refl;
       received-0 = refl;
-      same-contexts = refl;
+      same-current = refl;
       same-ticks = refl;
       same-running = refl;
       same-staged = refl;
@@ -185,9 +185,12 @@ adopting-written =
       byte-alone = adopting .byte-renewed;
       becomes-idle = λ d e. idle d (adopted d) (adopting .else-idle d e);
       none-else = no-byte;
-      as-many-given = adopting .contexts-kept;
+      as-module-0 = λ d. refl;
+      as-many-given = λ d. adopting .contexts-kept d .0;
+      its-own-kept = λ d. adopting .contexts-kept d .1;
+      module-1-fresh = adopting .second-fresh;
     }
 
 pub faults-held : FaultsHeld
 unfolding zeros? possible possibleTransfer possibleSecurity possibleThresholds possibleReading possibleParts possibleTrips possibleBefore keptBefore above trips
-faults-held = record { numbers = refl; adopted-ones = refl; no-others = refl; none-with-reading = refl; adopted-bytes = refl; byte-given = refl; both = refl }
+faults-held = record { numbers = refl; adopted-ones = refl; no-others = refl; none-with-reading = refl; adopted-bytes = refl; byte-given = refl; both = refl; in-a-cabinet = refl }

@@ -16,5 +16,7 @@ pub mod Health
 pub mod Reserved
 pub mod Comparisons
 pub mod Trips
+-- Two modules: what one has of the other.
+pub mod Modules
 -- That demand 3 is not empty: the incident at sea, computed.
 pub mod Incident

@@ -2,9 +2,9 @@
 -- Assumes nothing.
 use mathlib.Core.{Path.{_≡_, refl, ap}, List.{List, _∷_, _++_}}
 use Prim.Native.Nat.{ℕ}
-use Rattle.rules.{specs.Bytes.{zeros?, same?}, specs.Record.{possible, possibleTransfer, possibleSecurity, possibleThresholds, possibleReading, possibleParts, possibleTrips}, specs.Refusals.verdict}
-use Rattle.rules.{specs.Table.{rowOf, fits?, mask}, specs.Image.sumOfWords, specs.Fault.{recordFault, recordsFault, firstFault, imageOf}, specs.Module.{callResult, tickResult, powerResult, readingResult}, specs.Health.{above, trips}}
-use Rattle.rules.{specs.Text.decimal, specs.Log.entryOf, specs.Replay.moduleAfter}
+use Rattle.rules.{specs.Bytes.{zeros?, same?}, specs.Record.{possible, possibleTransfer, possibleSecurity, possibleThresholds, possibleReading, possibleParts, possibleTrips, possibleCabinet}, specs.Refusals.verdict}
+use Rattle.rules.{specs.Table.{rowOf, fits?, mask}, specs.Image.sumOfWords, specs.Fault.{recordFault, recordsFault, firstFault, imageOf}, specs.Cabinet.{callResult, tickResult, powerResult, readingResult}, specs.Health.{above, trips}}
+use Rattle.rules.{specs.Text.decimal, specs.Log.entryOf, specs.Replay.wholeAfter}
 use Rattle.rules.{specs.Report.{Report, reportAfter, fits, feed, two-swapped}, proofs.page.Sums.request-T01}
 use Rattle.rules_demands.specs.Reports.{ReportsWrittenOut, ReportsHeld}
 
@@ -43,5 +43,5 @@ written-out =
     }
 
 pub reports-held : ReportsHeld
-unfolding zeros? same? possible possibleTransfer possibleSecurity possibleThresholds possibleReading possibleParts possibleTrips verdict rowOf fits? mask sumOfWords recordFault recordsFault firstFault imageOf callResult tickResult powerResult readingResult above trips decimal entryOf moduleAfter reportAfter fits feed
+unfolding zeros? same? possible possibleTransfer possibleSecurity possibleThresholds possibleReading possibleParts possibleTrips possibleCabinet verdict rowOf fits? mask sumOfWords recordFault recordsFault firstFault imageOf callResult tickResult powerResult readingResult above trips decimal entryOf wholeAfter reportAfter fits feed
 reports-held = record { printed = refl; largest-fits = refl; too-many-first = refl; too-many-fourth = refl; too-many-fifth = refl }

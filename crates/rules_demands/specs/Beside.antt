@@ -3,30 +3,34 @@
 use Prim.Native.Nat.{ℕ, _≤_}
 use mathlib.Core.{Path._≡_, Logic._⊎_, Bool.true, List.List}
 use lib.ListN.{length}
-use Rattle.rules.specs.Record.{possible, Module}
+use Rattle.rules.specs.Record.{possibleCabinet, Whole, deviceOf}
 use Rattle.rules.specs.Refusals.{verdict}
 use Rattle.rules.specs.Security.{GetSecurityState, SetPassphrase, Disable, Unlock, Freeze, securityChecks}
-use Rattle.rules.specs.Module.{call, tick, power, reading, step}
+use Rattle.rules.specs.Cabinet.{call, tick, power, reading, step}
 use Rattle.rules.specs.declared.{Refusal.Refusal, Refusal.the-variants.Status, Verdict.the-variants.{Accepted, Refused}, Phase.the-variants.Staged, Security.Security, Reading.Reading}
 
 -- nothing but an accepted call of function 14 changes the area
-pub record AreaWrittenOut (m : Module) : Type 0 where
-  pub over-a-tick : step m tick .after .area ≡ m .area
-  pub over-a-power-cycle : step m power .after .area ≡ m .area
-  pub over-a-reading : (new : Reading) → step m (reading new) .after .area ≡ m .area
-  pub over-other-functions : (host revision index : ℕ) (request buffer : List ℕ) → (index ≡ 14 → ⊥)
-      → step m (call host revision index request buffer) .after .area ≡ m .area
-  pub over-refusals : (host revision index : ℕ) (request buffer : List ℕ) (refusal : Refusal)
-      → step m (call host revision index request buffer) .reply .verdict ≡ Refused refusal
-      → step m (call host revision index request buffer) .after .area ≡ m .area
+pub record AreaWrittenOut (w : Whole) : Type 0 where
+  pub over-a-tick : step w tick .after .area ≡ w .area
+  pub over-a-power-cycle : (named : ℕ) → step w (power named) .after .area ≡ w .area
+  pub over-a-reading : (named : ℕ) (new : Reading) → step w (reading named new) .after .area ≡ w .area
+  pub over-other-functions : (host named revision index : ℕ) (request buffer : List ℕ) → (index ≡ 14 → ⊥)
+      → step w (call host named revision index request buffer) .after .area ≡ w .area
+  pub over-refusals : (host named revision index : ℕ) (request buffer : List ℕ) (refusal : Refusal)
+      → step w (call host named revision index request buffer) .reply .verdict ≡ Refused refusal
+      → step w (call host named revision index request buffer) .after .area ≡ w .area
 
--- the last reading stays over every event but a reading that is accepted, which is then the last
-pub record LastWrittenOut (m : Module) : Type 0 where
-  pub stays-over-a-tick : step m tick .after .device .reading ≡ m .device .reading
-  pub stays-over-power : step m power .after .device .reading ≡ m .device .reading
-  pub stays-over-a-call : (host revision index : ℕ) (request buffer : List ℕ) → step m (call host revision index request buffer) .after .device .reading ≡ m .device .reading
-  pub stays-where-refused : (new : Reading) (refusal : Refusal) → step m (reading new) .reply .verdict ≡ Refused refusal → step m (reading new) .after .device .reading ≡ m .device .reading
-  pub new-where-accepted : (new : Reading) → step m (reading new) .reply .verdict ≡ Accepted → step m (reading new) .after .device .reading ≡ new
+-- a module's last reading stays over every event but a reading of it that is accepted, which is then the last
+pub record LastWrittenOut (own : ℕ) (w : Whole) : Type 0 where
+  pub stays-over-a-tick : deviceOf own (step w tick .after .cabinet) .reading ≡ deviceOf own (w .cabinet) .reading
+  pub stays-over-power : (named : ℕ) → deviceOf own (step w (power named) .after .cabinet) .reading ≡ deviceOf own (w .cabinet) .reading
+  pub stays-over-a-call : (host named revision index : ℕ) (request buffer : List ℕ)
+      → deviceOf own (step w (call host named revision index request buffer) .after .cabinet) .reading ≡ deviceOf own (w .cabinet) .reading
+  pub stays-where-refused : (named : ℕ) (new : Reading) (refusal : Refusal) → step w (reading named new) .reply .verdict ≡ Refused refusal
+      → deviceOf own (step w (reading named new) .after .cabinet) .reading ≡ deviceOf own (w .cabinet) .reading
+  pub stays-over-the-other : (named : ℕ) (new : Reading) → (named ≡ own → ⊥)
+      → deviceOf own (step w (reading named new) .after .cabinet) .reading ≡ deviceOf own (w .cabinet) .reading
+  pub new-where-accepted : (new : Reading) → step w (reading own new) .reply .verdict ≡ Accepted → deviceOf own (step w (reading own new) .after .cabinet) .reading ≡ new
 
 -- frozen, or with ten attempts: 10 to four of the five calls, whatever they carry
 pub record FrozenWrittenOut (s : Security) : Type 0 where
@@ -37,9 +41,9 @@ pub record FrozenWrittenOut (s : Security) : Type 0 where
   pub freeze-10 : verdict (securityChecks s Freeze) ≡ Refused (Status 10 0)
 
 pub record BesideWrittenOut : Type 0 where
-  pub area : (m : Module) → AreaWrittenOut m
-  pub last-reading : (m : Module) → LastWrittenOut m
+  pub area : (w : Whole) → AreaWrittenOut w
+  pub last-reading : (own : ℕ) → own ≤ 1 → (w : Whole) → LastWrittenOut own w
   pub frozen : (s : Security) → (s .frozen ≡ true) ⊎ (s .attempts ≡ 10) → FrozenWrittenOut s
-  pub taken-over : (m : Module) → possible (m .device) ≡ true → m .device .transfer .contexts ≤ 4294967295 → length (m .area) ≡ 16384
-      → m .device .transfer .phase ≡ Staged
-      → step m power .after .device .transfer .running ≡ m .device .transfer .staged
+  pub taken-over : (named : ℕ) → named ≤ 1 → (w : Whole) → possibleCabinet (w .cabinet) ≡ true → w .cabinet .contexts ≤ 4294967295 → length (w .area) ≡ 16384
+      → deviceOf named (w .cabinet) .transfer .phase ≡ Staged
+      → deviceOf named (step w (power named) .after .cabinet) .transfer .running ≡ deviceOf named (w .cabinet) .transfer .staged

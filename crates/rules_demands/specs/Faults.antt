@@ -1,11 +1,12 @@
--- Document 02, T-03, written out by the bytes of an image, and what becomes of a record that was kept before it or before T-08, field by field; and by examples.
+-- Document 02, T-03, written out by the bytes of an image, and what becomes of a record that was kept before it, before T-08 or before T-09, field by field; and by
+-- examples. A record from before T-09 is possible by itself where it is with its own context for the number of contexts given out.
 -- Assumes nothing.
 use Prim.Native.Nat.{ℕ, _*_, _/_, _%_, _^_, _<_}
 use mathlib.Core.{Path._≡_, Logic.{_↔_, _⊎_}, Bool.{Bool, true, false, not, _&&_}, List.{List, [], _∷_, map}}
 use lib.ListN.{length, take, drop}
 use Rattle.rules.specs.Tests.{if_then_else_, _≤?_, _=?_}
-use Rattle.rules.specs.{Bytes.{numberAt}, Image.{sumOfWords, goodRecord, goodImage}, Record.{possible, possibleParts, fresh}, Health.{newReading, trips}, Adopt.{possibleBefore, adoptable, adopted}}
-use Rattle.rules.specs.With.{_with-transfer_, _with-thresholds_, _with-reading_, _with-trips_, _with-phase_, _with-contexts_, _with-received_, _with-reason_}
+use Rattle.rules.specs.{Bytes.{numberAt}, Image.{sumOfWords, goodRecord, goodImage}, Record.{possible, possibleParts, possibleCabinet, fresh}, Health.{newReading, trips}, Adopt.{possibleBefore, adoptable, adopted, adoptedCabinet}}
+use Rattle.rules.specs.With.{_with-transfer_, _with-thresholds_, _with-reading_, _with-trips_, _with-phase_, _with-current_, _with-received_, _with-reason_}
 use Rattle.rules.specs.Fault.{reasonNumber, none, _of-record_, firstFault, imageOf}
 use Rattle.rules.specs.declared.{Reason.Reason, Reason.the-variants.{Size, Number, Count, Version, Sum}, Image.the-variants.{Good, Bad}}
 use Rattle.rules.specs.declared.{Phase.Phase, Phase.the-variants.{Idle, Failed}, Device.Device}
@@ -54,7 +55,7 @@ pub record FaultsWrittenOut : Type 0 where
 pub record IdleWithAllElse (d taken : Device) : Type 0 where
   pub idle : taken .transfer .phase ≡ Idle
   pub received-0 : taken .transfer .received ≡ 0
-  pub same-contexts : taken .transfer .contexts ≡ d .transfer .contexts
+  pub same-current : taken .transfer .current ≡ d .transfer .current
   pub same-ticks : taken .transfer .ticks ≡ d .transfer .ticks
   pub same-running : taken .transfer .running ≡ d .transfer .running
   pub same-staged : taken .transfer .staged ≡ d .transfer .staged
@@ -67,18 +68,22 @@ pub record IdleWithAllElse (d taken : Device) : Type 0 where
 
 pub record AdoptingWrittenOut : Type 0 where
   -- one that is possible; one that T-04's library kept; one of the library before T-03
-  pub possible-then : (d : Device) → (possible d ≡ true) ⊎ ((d .trips ≡ 0) × ((possibleParts d ≡ true) ⊎ (possibleBefore d ≡ true))) → possible (adopted d) ≡ true
-  pub failed-alone : (d : Device) → possibleBefore d ≡ true → (possibleParts d ≡ false) ↔ (d .transfer .phase ≡ Failed)
-  pub stays : (d : Device) → possible d ≡ true → adopted d ≡ d
-  pub byte-alone : (d : Device) → possible d ≡ false → possibleParts d ≡ true → adopted d ≡ d with-trips (trips (d .thresholds) (d .reading))
-  pub becomes-idle : (d : Device) → possibleParts d ≡ false → IdleWithAllElse d (adopted d)
-  pub none-else : (d : Device) → adoptable d ≡ true → possible d ≡ false → (d .trips ≡ 0) × ((possibleParts d ≡ true) ⊎ (possibleBefore d ≡ true))
-  pub as-many-given : (d : Device) → adopted d .transfer .contexts ≡ d .transfer .contexts
+  pub possible-then : (d : Device) → (possible (d .transfer .current) d ≡ true) ⊎ ((d .trips ≡ 0) × ((possibleParts (d .transfer .current) d ≡ true) ⊎ (possibleBefore d ≡ true))) → possibleCabinet (adoptedCabinet d) ≡ true
+  pub failed-alone : (d : Device) → possibleBefore d ≡ true → (possibleParts (d .transfer .current) d ≡ false) ↔ (d .transfer .phase ≡ Failed)
+  pub stays : (d : Device) → possible (d .transfer .current) d ≡ true → adopted d ≡ d
+  pub byte-alone : (d : Device) → possible (d .transfer .current) d ≡ false → possibleParts (d .transfer .current) d ≡ true → adopted d ≡ d with-trips (trips (d .thresholds) (d .reading))
+  pub becomes-idle : (d : Device) → possibleParts (d .transfer .current) d ≡ false → IdleWithAllElse d (adopted d)
+  pub none-else : (d : Device) → adoptable d ≡ true → possible (d .transfer .current) d ≡ false → (d .trips ≡ 0) × ((possibleParts (d .transfer .current) d ≡ true) ⊎ (possibleBefore d ≡ true))
+  -- module 0 of a cabinet that has given out as many contexts; module 1 is fresh
+  pub as-module-0 : (d : Device) → adoptedCabinet d .first ≡ adopted d
+  pub as-many-given : (d : Device) → adoptedCabinet d .contexts ≡ d .transfer .current
+  pub its-own-kept : (d : Device) → adoptedCabinet d .first .transfer .current ≡ d .transfer .current
+  pub module-1-fresh : (d : Device) → adoptedCabinet d .second ≡ fresh
 
--- a record in this phase with so many contexts given out, with this reason: as it was kept, and as it is taken over
-abbrev pub kept : Phase → (contexts received reason : ℕ) → Device
-kept phase contexts received reason =
-    fresh with-transfer (fresh .transfer with-phase phase with-contexts contexts with-received received with-reason reason)
+-- a record in this phase whose context is this one, with this reason: as it was kept, and as it is taken over
+abbrev pub kept : Phase → (context received reason : ℕ) → Device
+kept phase context received reason =
+    fresh with-transfer (fresh .transfer with-phase phase with-current context with-received received with-reason reason)
 
 -- fresh but for thresholds whose first alarm the reading of zeros trips, with this byte
 abbrev pub tripping : (byte : ℕ) → Device
@@ -95,3 +100,4 @@ pub record FaultsHeld : Type 0 where
   pub byte-given : adopted (tripping 0) ≡ tripping 1
   -- and in Failed without a reason: Idle, with the byte too
   pub both : adopted (kept Failed 7 128 0 with-thresholds (tripping 0 .thresholds)) ≡ (kept Idle 7 0 0 with-thresholds (tripping 0 .thresholds) with-trips 1)
+  pub in-a-cabinet : adoptedCabinet (kept Failed 7 128 0) ≡ record { contexts = 7; first = kept Idle 7 0 0; second = fresh }

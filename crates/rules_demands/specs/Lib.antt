@@ -18,3 +18,5 @@ pub mod Health
 pub mod Reserved
 pub mod Comparisons
 pub mod Trips
+-- Two modules: what one has of the other.
+pub mod Modules

@@ -88,7 +88,7 @@ fifthLog = getD (map logOf texts) 4 []
 pub record ReportsHeld : Type 0 where
   pub printed : reportText (reportOf (map logOf texts))
       ≡ ascii
-      "status 0 1 2 3 4 5 6 7 8 9 10 11\nhost 1 24 0 0 0 0 0 0 1 0 0 0 0\nhost 2 0 0 0 0 0 0 0 1 0 0 0 0\nhost 3 0 0 0 0 0 0 0 0 0 0 0 0\nhost 4 1 0 0 0 0 0 0 0 0 0 0 0\nfunction 0 1\nticks 57\npower 1\nreadings 1\nbad 2\nshort 2\n"
+      "status 0 1 2 3 4 5 6 7 8 9 10 11\nhost 1 25 0 0 0 0 0 0 1 0 0 0 0\nhost 2 1 0 0 0 0 0 0 1 1 0 0 0\nhost 3 0 0 0 0 0 0 0 0 0 0 0 0\nhost 4 1 0 0 0 0 0 0 0 0 0 0 0\nfunction 0 1\nticks 57\npower 3\nreadings 2\nbad 6\nshort 2\n"
   pub largest-fits : map (λ r. feed r firstLog .taken) (eachWith 4294967294) ≡ replicate 7 true
   pub too-many-first : map (λ r. feed r firstLog .taken) (eachWith 4294967295) ≡ false ∷ true ∷ false ∷ true ∷ true ∷ true ∷ false ∷ []
   pub too-many-fourth : map (λ r. feed r fourthLog .taken) (eachWith 4294967295) ≡ true ∷ false ∷ true ∷ false ∷ true ∷ false ∷ true ∷ []

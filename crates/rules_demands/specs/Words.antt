@@ -6,25 +6,25 @@ use mathlib.Core.{Bool.{Bool, true, false, _&&_, _||_}, List.{List, [], _∷_, _
 use lib.ListN.{length, drop}
 use Rattle.rules.specs.Tests.{if_then_else_, _≤?_, _=?_, _implies_}
 use Rattle.rules.specs.Bytes.{numberAt}
-use Rattle.rules.specs.Record.{Module}
-use Rattle.rules.specs.Module.{Event, call, tick, power, reading, step}
+use Rattle.rules.specs.Record.{Whole}
+use Rattle.rules.specs.Cabinet.{Event, call, tick, power, reading, step}
 use Rattle.rules.specs.Transfers.{Exchange, History, Kind, Started, Sent, Finished, Ticked, Powered, Other}
 use Rattle.rules.specs.declared.{Refusal.the-variants.{R, Status}, Verdict.Verdict, Verdict.the-variants.{Accepted, Refused}}
 
--- What an exchange is to the transfers: an accepted call of function 13, 14 or 15, by its bytes; a tick; a power cycle; or none of these.
-abbrev pub acceptedAs : (host index : ℕ) (request buffer : List ℕ) → Kind
-acceptedAs host index request buffer =
-    if index =? 13 then Started host (numberAt 4 4 buffer)
-    else if index =? 14 then Sent host (numberAt 4 0 request) (numberAt 4 4 request) (drop 12 request)
-    else if index =? 15 then Finished host (numberAt 4 4 request) (numberAt 1 0 request)
+-- What an exchange is to the transfers: a module's accepted call of function 13, 14 or 15, by its bytes; a tick; a module's power cycle; or none of these.
+abbrev pub acceptedAs : (named host index : ℕ) (request buffer : List ℕ) → Kind
+acceptedAs named host index request buffer =
+    if index =? 13 then Started named host (numberAt 4 4 buffer)
+    else if index =? 14 then Sent named host (numberAt 4 0 request) (numberAt 4 4 request) (drop 12 request)
+    else if index =? 15 then Finished named host (numberAt 4 4 request) (numberAt 1 0 request)
     else Other
 
 abbrev pub answeredAs : Event → Verdict → (buffer : List ℕ) → Kind
-answeredAs (call host revision index request lent) Accepted buffer = acceptedAs host index request buffer
-answeredAs (call host revision index request lent) (Refused refusal) buffer = Other
+answeredAs (call host named revision index request lent) Accepted buffer = acceptedAs named host index request buffer
+answeredAs (call host named revision index request lent) (Refused refusal) buffer = Other
 answeredAs tick verdict buffer = Ticked
-answeredAs power verdict buffer = Powered
-answeredAs (reading new) verdict buffer = Other
+answeredAs (power named) verdict buffer = Powered named
+answeredAs (reading named new) verdict buffer = Other
 
 abbrev pub what : Exchange → Kind
 what x = answeredAs (x .event) (x .got .reply .verdict) (x .got .buffer)
@@ -41,11 +41,11 @@ remaining (x ∷ h) = if stays (x .got .reply .verdict) then x ∷ remaining h e
 
 -- a Send with this context
 abbrev pub sendWith : (context : ℕ) → Kind → Bool
-sendWith context (Started host c) = false
-sendWith context (Sent host c offset piece) = c =? context
-sendWith context (Finished host c flag) = false
+sendWith context (Started named host c) = false
+sendWith context (Sent named host c offset piece) = c =? context
+sendWith context (Finished named host c flag) = false
 sendWith context Ticked = false
-sendWith context Powered = false
+sendWith context (Powered named) = false
 sendWith context Other = false
 
 -- the Sends with this context, and all the others
@@ -59,48 +59,48 @@ othersThan context (x ∷ h) = if sendWith context (what x) then othersThan cont
 
 -- the bytes that Sends carry, joined
 abbrev pub bytesOf : Kind → List ℕ
-bytesOf (Started host c) = []
-bytesOf (Sent host c offset piece) = piece
-bytesOf (Finished host c flag) = []
+bytesOf (Started named host c) = []
+bytesOf (Sent named host c offset piece) = piece
+bytesOf (Finished named host c flag) = []
 bytesOf Ticked = []
-bytesOf Powered = []
+bytesOf (Powered named) = []
 bytesOf Other = []
 
 abbrev pub joined : History → List ℕ
 joined [] = []
 joined (x ∷ h) = bytesOf (what x) ++ joined h
 
--- how many ticks, and how many power cycles
+-- how many ticks, and how many power cycles of a module
 abbrev pub oneForTick : Event → ℕ
-oneForTick (call host revision index request lent) = 0
+oneForTick (call host named revision index request lent) = 0
 oneForTick tick = 1
-oneForTick power = 0
-oneForTick (reading new) = 0
+oneForTick (power named) = 0
+oneForTick (reading named new) = 0
 
 abbrev pub ticks : History → ℕ
 ticks [] = 0
 ticks (x ∷ h) = oneForTick (x .event) + ticks h
 
-abbrev pub oneForPower : Event → ℕ
-oneForPower (call host revision index request lent) = 0
-oneForPower tick = 0
-oneForPower power = 1
-oneForPower (reading new) = 0
+abbrev pub oneForPower : (own : ℕ) → Event → ℕ
+oneForPower own (call host named revision index request lent) = 0
+oneForPower own tick = 0
+oneForPower own (power named) = if named =? own then 1 else 0
+oneForPower own (reading named new) = 0
 
-abbrev pub powers : History → ℕ
-powers [] = 0
-powers (x ∷ h) = oneForPower (x .event) + powers h
+abbrev pub powers : (own : ℕ) → History → ℕ
+powers own [] = 0
+powers own (x ∷ h) = oneForPower own (x .event) + powers own h
 
--- the events of a history; the module after events; and the history that they make
+-- the events of a history; the cabinet after events; and the history that they make
 abbrev pub eventsOf : History → List Event
 eventsOf [] = []
 eventsOf (x ∷ h) = x .event ∷ eventsOf h
 
-abbrev pub comesTo : Module → List Event → Module
+abbrev pub comesTo : Whole → List Event → Whole
 comesTo m [] = m
 comesTo m (event ∷ events) = comesTo (step m event .after) events
 
-abbrev pub answersTo : Module → List Event → History
+abbrev pub answersTo : Whole → List Event → History
 answersTo m [] = []
 answersTo m (event ∷ events) =
     record { event = event; got = record { reply = step m event .reply; buffer = step m event .answer } }
@@ -108,11 +108,11 @@ answersTo m (event ∷ events) =
 
 -- A test for honest hosts. A host was answered a context by one of its Starts; a Send, a Query or a Finish that is long enough carries one.
 abbrev pub answeredIt : (host context : ℕ) → Kind → Bool
-answeredIt host context (Started to given) = to =? host && given =? context
-answeredIt host context (Sent sender given offset piece) = false
-answeredIt host context (Finished sender given flag) = false
+answeredIt host context (Started named to given) = to =? host && given =? context
+answeredIt host context (Sent named sender given offset piece) = false
+answeredIt host context (Finished named sender given flag) = false
 answeredIt host context Ticked = false
-answeredIt host context Powered = false
+answeredIt host context (Powered named) = false
 answeredIt host context Other = false
 
 abbrev pub answeredTo : (host context : ℕ) → (past : History) → Bool
@@ -120,12 +120,12 @@ answeredTo host context [] = false
 answeredTo host context (x ∷ past) = answeredIt host context (what x) || answeredTo host context past
 
 abbrev pub usesOwn : (past : History) → Event → Bool
-usesOwn past (call host revision index request lent) =
+usesOwn past (call host named revision index request lent) =
     (index =? 14 || index =? 16 implies (4 ≤? length request implies answeredTo host (numberAt 4 0 request) past))
     && (index =? 15 implies (8 ≤? length request implies answeredTo host (numberAt 4 4 request) past))
 usesOwn past tick = true
-usesOwn past power = true
-usesOwn past (reading new) = true
+usesOwn past (power named) = true
+usesOwn past (reading named new) = true
 
 abbrev pub honestAfter : (past h : History) → Bool
 honestAfter past [] = true

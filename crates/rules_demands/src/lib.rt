@@ -1,6 +1,6 @@
 // The demands, each cited by a contract, so that the gate fails where its theorem is gone. Beside each stands the same promise written out with none of its
 // words (T-06's with those of a report, by bytes and numbers) and proved from it, so that the gate fails where the theorem says less. Demand 2 is what
-// crates/module promises of the code.
+// crates/cabinet promises of the code.
 ghost use Rattle.rules.specs.Demand1.{Demand1};
 ghost use Rattle.rules.specs.Demand3.{Demand3};
 ghost use Rattle.rules.specs.Report.{RequestT01};
@@ -11,6 +11,7 @@ ghost use Rattle.rules.specs.Health.{RequestT04};
 ghost use Rattle.rules.specs.Reserved.{RequestT05};
 ghost use Rattle.rules.specs.Compare.{RequestT06};
 ghost use Rattle.rules.specs.TripsKept.{RequestT08};
+ghost use Rattle.rules.specs.Apart.{RequestT09};
 ghost use Rattle.rules_demands.specs.Calls.{Demand1WrittenOut};
 ghost use Rattle.rules_demands.specs.Histories.{Demand3WrittenOut};
 ghost use Rattle.rules_demands.specs.Beside.{BesideWrittenOut};
@@ -22,6 +23,7 @@ ghost use Rattle.rules_demands.specs.Health.{HealthWrittenOut, HealthHel
 ghost use Rattle.rules_demands.specs.Reserved.{ReservedMeansZero, ReservedHeld};
 ghost use Rattle.rules_demands.specs.Comparisons.{ComparisonsWrittenOut, ComparisonsHeld};
 ghost use Rattle.rules_demands.specs.Trips.{TripsWrittenOut, TripsHeld};
+ghost use Rattle.rules_demands.specs.Modules.{ModulesWrittenOut, StartsNeeded, ModulesHeld};
 
 // Any call gets an answer, and a refusal leaves what it must.
 pub fn demand_1()
@@ -97,4 +99,13 @@ pub fn request_t08()
     ensures { λ r. ⌜ RequestT08 ⌝ }
     ensures { λ r. ⌜ TripsWrittenOut ⌝ }
     ensures { λ r. ⌜ TripsHeld ⌝ }
+{}
+
+// Document 02, T-09: what an event leaves of the other module, and that one module does not see the other but in its own Starts' answers; the same written out; that
+// the condition on Starts is needed; and examples.
+pub fn request_t09()
+    ensures { λ r. ⌜ RequestT09 ⌝ }
+    ensures { λ r. ⌜ ModulesWrittenOut ⌝ }
+    ensures { λ r. ⌜ StartsNeeded ⌝ }
+    ensures { λ r. ⌜ ModulesHeld ⌝ }
 {}
