@@ -1,5 +1,6 @@
 // The answer's bytes, written over the front of the answer buffer; the bytes past them stay.
 ghost use mathlib.Core.Path.{_≡_};
+ghost use mathlib.Core.Bool.{Bool};
 ghost use mathlib.Core.List.{List, _++_};
 ghost use Prim.Native.Nat.{ℕ, _≤_, _-_};
 ghost use lib.ListN.{length};
@@ -33,17 +34,17 @@ pub fn put_status(answer: &mut [u8], status: u16, ext: u16, size: usize)
     bytes_base::put_at(answer, 4, size - 4, 0);
 }
 
-// What an accepted call answers, which its request and the area have no part in.
-pub fn put_accepted(d: Device, function: Function, revision: u64, answer: &mut [u8])
+// What an accepted call answers, which its request, the area and the other module have no part in.
+pub fn put_accepted(d: Device, given: u32, function: Function, revision: u64, answer: &mut [u8])
     requires { ⌜ answerRoom ≤ length (now answer) ⌝ }
-    ensures { λ r. ⌜ ((area request : List ℕ) → now (answer .exit) ≡ answerAfter (acceptedAnswer (moduleOf d area) (callOf function revision request)) (now (answer .entry))) ⌝ }
+    ensures { λ r. ⌜ ((area request : List ℕ) (taken : Bool) → now (answer .exit) ≡ answerAfter (acceptedAnswer (moduleOf d area given taken) (callOf function revision request)) (now (answer .entry))) ⌝ }
 {
     match function {
         Function::Mask => bytes_base::put_at(answer, 0, 4, call_table::mask(revision) as u64),
         Function::GetHealth => health_answers::put_health(d.trips, d.reading, answer),
         Function::GetThreshold => threshold_answers::put_answer(d.thresholds, answer),
         Function::GetFwInfo => transfer_answers::put_info(d.transfer, answer),
-        Function::Start => transfer_answers::put_started(d.transfer, answer),
+        Function::Start => transfer_answers::put_started(given, answer),
         Function::Send => put_status(answer, 0, 0, 4),
         Function::Finish => put_status(answer, 0, 0, 4),
         Function::Query => transfer_answers::put_queried(d.transfer, answer),

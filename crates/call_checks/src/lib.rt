@@ -1,14 +1,16 @@
-// Order: R1, R2, R3, status 1, request length, then each function's checks as listed.
+// Order: R1, R2, R5, R3, status 1, request length, then each function's checks as listed.
 ghost use mathlib.Core.Path.{_≡_};
 ghost use mathlib.Core.List.{List, [], _∷_};
 ghost use Prim.Native.Nat.{ℕ};
 ghost use lib.ListN.{length};
-ghost use Rattle.rules.specs.Record.{moduleOf};
+ghost use Rattle.rules.specs.Record.{wholeOf, moduleOf, standing};
 ghost use Rattle.rules.specs.Refusals.{verdict};
 ghost use Rattle.rules.specs.Table.{rowOf, fits?, servedCheck, lengthCheck};
-ghost use Rattle.rules.specs.Module.{callOf, checks, gateChecks, callChecks};
+ghost use Rattle.rules.specs.Module.{callOf, checks};
+ghost use Rattle.rules.specs.Cabinet.{gateChecks, callChecks};
 ghost use Rattle.rules.proofs.page.Fitting.{Fitting};
 use rules::ANSWER_ROOM;
+use rules::Cabinet;
 use rules::Device;
 use rules::Function;
 use rules::Refusal;
@@ -47,10 +49,11 @@ fn judge_table(revision: u64, index: u64, row: Row, request: &[u8]) -> Verdict
     Verdict::Accepted
 }
 
-// R1, R2, R3, status 1, request length.
+// R1, R2, R5, R3, status 1, request length.
 fn judge_gate(
-    d: Device,
+    c: Cabinet,
     area: &[u8],
+    named: u64,
     revision: u64,
     index: u64,
     row: Row,
@@ -58,13 +61,13 @@ fn judge_gate(
     answer: &[u8],
 ) -> Verdict
     requires { ⌜ row ≡ rowOf index ⌝ }
-    ensures { λ r. ⌜ r ≡ verdict (gateChecks (moduleOf d (now (area .entry))) revision index (now (request .entry)) (now (answer .entry))) ⌝ }
+    ensures { λ r. ⌜ r ≡ verdict (gateChecks (wholeOf c (now (area .entry))) named revision index (now (request .entry)) (now (answer .entry))) ⌝ }
 {
     let short = answer.len() < ANSWER_ROOM;
     if short {
         return Verdict::Refused(Refusal::R { number: 1 });
     }
-    let event = device_record::judge_event(d, area);
+    let event = cabinet_record::judge_event(c, area, named);
     match event {
         Verdict::Refused(refusal) => Verdict::Refused(refusal),
         Verdict::Accepted => judge_table(revision, index, row, request),
@@ -72,16 +75,23 @@ fn judge_gate(
 }
 
 // The function's own checks, which the area has no part in.
-fn judge_function(d: Device, function: Function, revision: u64, request: &[u8]) -> Verdict
+fn judge_function(
+    d: Device,
+    given: u32,
+    taken: bool,
+    function: Function,
+    revision: u64,
+    request: &[u8],
+) -> Verdict
     requires { ⌜ Fitting function (length (now request)) ⌝ }
-    ensures { λ r. ⌜ ((area : List ℕ) → r ≡ verdict (checks (moduleOf d area) (callOf function revision (now (request .entry))))) ⌝ }
+    ensures { λ r. ⌜ ((area : List ℕ) → r ≡ verdict (checks (moduleOf d area given taken) (callOf function revision (now (request .entry))))) ⌝ }
 {
     match function {
         Function::Mask => Verdict::Accepted,
         Function::GetHealth => Verdict::Accepted,
         Function::GetThreshold => Verdict::Accepted,
         Function::GetFwInfo => Verdict::Accepted,
-        Function::Start => transfer_start_checks::judge_start(d.transfer),
+        Function::Start => transfer_start_checks::judge_start(d.transfer, given, taken),
         Function::Send => transfer_send_checks::judge_send(d.transfer, request),
         Function::Finish => transfer_finish_checks::judge_finish(d.transfer, request),
         Function::Query => transfer_finish_checks::judge_query(d.transfer, request),
@@ -98,10 +108,22 @@ fn judge_function(d: Device, function: Function, revision: u64, request: &[u8]) 
     }
 }
 
+// Those of the module that the call names: the area is taken where the other has it.
+fn judge_named(c: Cabinet, named: u64, function: Function, revision: u64, request: &[u8]) -> Verdict
+    requires { ⌜ Fitting function (length (now request)) ⌝ }
+    ensures { λ r. ⌜ ((area : List ℕ) → r ≡ verdict (checks (standing named (wholeOf c area)) (callOf function revision (now (request .entry))))) ⌝ }
+{
+    let own = cabinet_record::own(c, named);
+    let other = cabinet_record::other(c, named);
+    let taken = device_phase::has_area(other.transfer);
+    judge_function(own, c.contexts, taken, function, revision, request)
+}
+
 // All checks of a call.
 pub fn judge(
-    d: Device,
+    c: Cabinet,
     area: &[u8],
+    named: u64,
     revision: u64,
     index: u64,
     row: Row,
@@ -109,14 +131,14 @@ pub fn judge(
     answer: &[u8],
 ) -> Verdict
     requires { ⌜ row ≡ rowOf index ⌝ }
-    ensures { λ r. ⌜ r ≡ verdict (callChecks (moduleOf d (now (area .entry))) revision index (now (request .entry)) (now (answer .entry))) ⌝ }
+    ensures { λ r. ⌜ r ≡ verdict (callChecks (wholeOf c (now (area .entry))) named revision index (now (request .entry)) (now (answer .entry))) ⌝ }
 {
-    let gate = judge_gate(d, area, revision, index, row, request, answer);
+    let gate = judge_gate(c, area, named, revision, index, row, request, answer);
     match gate {
         Verdict::Refused(refusal) => Verdict::Refused(refusal),
         Verdict::Accepted => {
             let function = row.function;
-            judge_function(d, function, revision, request)
+            judge_named(c, named, function, revision, request)
         }
     }
 }

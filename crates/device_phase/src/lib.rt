@@ -1,6 +1,6 @@
-// The phase in code: its number, by which two phases are compared, and whether a context is live in it.
+// The phase in code: its number, by which two phases are compared; whether a context is live in it, and whether its module has the staging area.
 ghost use mathlib.Core.Path.{_≡_};
-ghost use Rattle.rules.specs.Record.{phaseNumber, live};
+ghost use Rattle.rules.specs.Record.{phaseNumber, live, hasArea};
 use rules::Phase;
 use rules::Transfer;
 
@@ -22,5 +22,14 @@ pub fn live(t: Transfer, context: u32) -> bool
 {
     let p = t.phase;
     let n = phase_number(p);
-    !(n == 0) & (context == t.contexts)
+    !(n == 0) & (context == t.current)
+}
+
+// It is Receiving or Verifying.
+pub fn has_area(t: Transfer) -> bool
+    ensures { λ r. ⌜ r ≡ hasArea t ⌝ }
+{
+    let p = t.phase;
+    let n = phase_number(p);
+    (n == 1) | (n == 2)
 }

@@ -38,20 +38,14 @@ none (suc n) = lt-leb (suc n) 0 (omega arith) ∙ sym (ne-eqb (suc n) 0 (λ e. o
 any : (n : ℕ) → leb 0 n ≡ true
 any n = le-leb 0 n (omega arith)
 
--- "contexts is at least 1 outside Idle; received is at most 16,384, and 0 in Idle;"
-begun : (idle : Bool) (contexts received : ℕ)
-    → (leb (boolByte (not idle)) contexts && leb received (boolByte (not idle) * 16384))
-    ≡ ((idle || leb 1 contexts) && leb received 16384 && (not idle || eqb received 0))
-begun false contexts received = and-true (leb 1 contexts && leb received 16384)
-begun true contexts received = ap (λ (t : Bool). t && leb received 0) (any contexts) ∙ go received
+-- "received is at most 16,384, and 0 in Idle;"
+begun : (idle : Bool) (received : ℕ) → leb received (boolByte (not idle) * 16384) ≡ (leb received 16384 && (not idle || eqb received 0))
+begun false received = and-true (leb received 16384)
+begun true zero = refl
+begun true (suc n) = none (suc n) ∙ e ∙ sym (ap (λ (t : Bool). leb (suc n) 16384 && t) e ∙ and-false (leb (suc n) 16384))
   where
-    go : (n : ℕ) → leb n 0 ≡ (leb n 16384 && eqb n 0)
-    go zero = refl
-    go (suc n) =
-        none (suc n) ∙ e ∙ sym (ap (λ (t : Bool). leb (suc n) 16384 && t) e ∙ and-false (leb (suc n) 16384))
-      where
-        e : eqb (suc n) 0 ≡ false
-        e = ne-eqb (suc n) 0 (λ q. omega arith)
+    e : eqb (suc n) 0 ≡ false
+    e = ne-eqb (suc n) 0 (λ q. omega arith)
 
 -- "ticks left is 1 to 8 in Verifying and 0 elsewhere;"
 ticked : (verifying : Bool) (ticks : ℕ) (before : Bool)
@@ -60,13 +54,13 @@ ticked : (verifying : Bool) (ticks : ℕ) (before : Bool)
 ticked true ticks before = and-again before (leb 1 ticks) (leb ticks 8) ∙ and-true (before && (leb 1 ticks && leb ticks 8))
 ticked false ticks before = λ i. before && any ticks i && none ticks i
 
-pub numbers : (idle verifying : Bool) (contexts received ticks : ℕ) (after : Bool)
-    → (leb (boolByte (not idle)) contexts && leb received (boolByte (not idle) * 16384) && leb (boolByte verifying) ticks && leb ticks (boolByte verifying * 8) && after)
-    ≡ ((idle || leb 1 contexts) && leb received 16384 && (not idle || eqb received 0) && (not verifying || (leb 1 ticks && leb ticks 8)) && (verifying || eqb ticks 0) && after)
-numbers idle verifying contexts received ticks after =
+pub numbers : (idle verifying : Bool) (received ticks : ℕ) (after : Bool)
+    → (leb received (boolByte (not idle) * 16384) && leb (boolByte verifying) ticks && leb ticks (boolByte verifying * 8) && after)
+    ≡ (leb received 16384 && (not idle || eqb received 0) && (not verifying || (leb 1 ticks && leb ticks 8)) && (verifying || eqb ticks 0) && after)
+numbers idle verifying received ticks after =
     ap (λ (t : Bool). t && after)
-    (ap (λ (t : Bool). t && leb (boolByte verifying) ticks && leb ticks (boolByte verifying * 8)) (begun idle contexts received)
-    ∙ ticked verifying ticks ((idle || leb 1 contexts) && leb received 16384 && (not idle || eqb received 0)))
+    (ap (λ (t : Bool). t && leb (boolByte verifying) ticks && leb ticks (boolByte verifying * 8)) (begun idle received)
+    ∙ ticked verifying ticks (leb received 16384 && (not idle || eqb received 0)))
 
 -- document 02, T-03: "a possible record has 1 to 5 and 0 to 127 there and zeros elsewhere"
 pub fault : (failed : Bool) (reason faulty : ℕ)

@@ -27,12 +27,12 @@ pub fn put_info(t: Transfer, answer: &mut [u8])
 }
 
 // The sum is made in 64 bits, where it is exact.
-pub fn put_started(t: Transfer, answer: &mut [u8])
+pub fn put_started(given: u32, answer: &mut [u8])
     requires { ⌜ answerRoom ≤ length (now answer) ⌝ }
-    ensures { λ r. ⌜ now (answer .exit) ≡ splice 0 (statusBytes 0 0 ++ startAnswer t) (now (answer .entry)) ⌝ }
+    ensures { λ r. ⌜ now (answer .exit) ≡ splice 0 (statusBytes 0 0 ++ startAnswer given) (now (answer .entry)) ⌝ }
 {
     let mut bytes = [0u8; 8];
-    bytes_base::put_at(&mut bytes, 4, 4, t.contexts as u64 + 1);
+    bytes_base::put_at(&mut bytes, 4, 4, given as u64 + 1);
     bytes_base::copy(answer, &bytes);
 }
 

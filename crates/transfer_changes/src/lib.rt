@@ -1,23 +1,25 @@
 // Document 01, "A firmware transfer": what an accepted Start, Send and Finish change, in the transfer's part of the record and in the staging area.
 ghost use mathlib.Core.Path.{_≡_};
-ghost use Prim.Native.Nat.{_≤_};
+ghost use mathlib.Core.Bool.{Bool};
+ghost use Prim.Native.Nat.{ℕ, _≤_, _<_};
 ghost use lib.ListN.{length};
 ghost use Rattle.rules.specs.Bytes.{splice};
-ghost use Rattle.rules.specs.Numbers.{areaSize};
+ghost use Rattle.rules.specs.Numbers.{areaSize, lastContext};
 ghost use Rattle.rules.specs.Refusals.{verdict};
-ghost use Rattle.rules.specs.Transfer.{Start, sendOf, finishOf, startChecks, transferChecks, transferChange};
+ghost use Rattle.rules.specs.Transfer.{Start, sendOf, finishOf, transferChecks, transferChange};
 ghost use Rattle.transfer_changes.specs.Sent.{Sent};
 use rules::Phase;
 use rules::Transfer;
 use rules::Verdict;
 
-pub fn start(t: Transfer) -> Transfer
-    requires { ⌜ verdict (startChecks t) ≡ Verdict.Accepted ⌝ }
-    ensures { λ r. ⌜ r ≡ transferChange t Start ⌝ }
+// The next number is given: one more than both modules were given so far.
+pub fn start(t: Transfer, given: u32) -> Transfer
+    requires { ⌜ given < lastContext ⌝ }
+    ensures { λ r. ⌜ r ≡ transferChange t given Start ⌝ }
 {
     Transfer {
         phase: Phase::Receiving,
-        contexts: t.contexts + 1,
+        current: given + 1,
         received: 0,
         reason: 0,
         faulty: 0,
@@ -41,7 +43,7 @@ fn put_piece(part: &mut [u8], piece: &[u8])
 pub fn send(t: Transfer, area: &mut [u8], request: &[u8]) -> Transfer
     requires { ⌜ length (now area) ≡ areaSize ⌝ }
     requires { ⌜ 12 ≤ length (now request) ⌝ }
-    requires { ⌜ verdict (transferChecks t (sendOf (now request))) ≡ Verdict.Accepted ⌝ }
+    requires { ⌜ ((given : ℕ) (taken : Bool) → verdict (transferChecks t given taken (sendOf (now request))) ≡ Verdict.Accepted) ⌝ }
     ensures { λ r. ⌜ Sent t (sendOf (now (request .entry))) (now (area .entry)) r (now (area .exit)) ⌝ }
 {
     let offset = bytes_numbers::word(request, 4) as usize;
@@ -59,7 +61,7 @@ pub fn send(t: Transfer, area: &mut [u8], request: &[u8]) -> Transfer
 
 pub fn finish(t: Transfer, request: &[u8]) -> Transfer
     requires { ⌜ length (now request) ≡ 8 ⌝ }
-    ensures { λ r. ⌜ r ≡ transferChange t (finishOf (now (request .entry))) ⌝ }
+    ensures { λ r. ⌜ ((given : ℕ) → r ≡ transferChange t given (finishOf (now (request .entry)))) ⌝ }
 {
     let verify = bytes_numbers::byte(request, 0) == 0;
     if verify {

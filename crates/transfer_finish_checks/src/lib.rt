@@ -1,5 +1,7 @@
-// The checks of Finish, and of Query, which asks what came of it, in the page's order.
+// The checks of Finish, and of Query, which asks what came of it, in the page's order. The other module has no part in them.
 ghost use mathlib.Core.Path.{_≡_};
+ghost use mathlib.Core.Bool.{Bool};
+ghost use Prim.Native.Nat.{ℕ};
 ghost use lib.ListN.{length};
 ghost use Rattle.rules.specs.Refusals.{verdict};
 ghost use Rattle.rules.specs.Transfer.{finishOf, queryOf, transferChecks};
@@ -9,7 +11,7 @@ use rules::Verdict;
 
 pub fn judge_finish(t: Transfer, request: &[u8]) -> Verdict
     requires { ⌜ length (now request) ≡ 8 ⌝ }
-    ensures { λ r. ⌜ r ≡ verdict (transferChecks t (finishOf (now (request .entry)))) ⌝ }
+    ensures { λ r. ⌜ ((given : ℕ) (taken : Bool) → r ≡ verdict (transferChecks t given taken (finishOf (now (request .entry))))) ⌝ }
 {
     let p = t.phase;
     let n = device_phase::phase_number(p);
@@ -38,7 +40,7 @@ pub fn judge_finish(t: Transfer, request: &[u8]) -> Verdict
 
 pub fn judge_query(t: Transfer, request: &[u8]) -> Verdict
     requires { ⌜ length (now request) ≡ 4 ⌝ }
-    ensures { λ r. ⌜ r ≡ verdict (transferChecks t (queryOf (now (request .entry)))) ⌝ }
+    ensures { λ r. ⌜ ((given : ℕ) (taken : Bool) → r ≡ verdict (transferChecks t given taken (queryOf (now (request .entry))))) ⌝ }
 {
     let p = t.phase;
     let n = device_phase::phase_number(p);

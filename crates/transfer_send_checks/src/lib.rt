@@ -1,6 +1,7 @@
 // The checks of Send, in the page's order.
 ghost use mathlib.Core.Path.{_≡_};
-ghost use Prim.Native.Nat.{_≤_};
+ghost use mathlib.Core.Bool.{Bool};
+ghost use Prim.Native.Nat.{ℕ, _≤_};
 ghost use lib.ListN.{length};
 ghost use Rattle.rules.specs.Refusals.{verdict};
 ghost use Rattle.rules.specs.Transfer.{sendOf, transferChecks};
@@ -10,10 +11,10 @@ use rules::Refusal;
 use rules::Transfer;
 use rules::Verdict;
 
-// Offset and length are added in 64 bits, where their sum is exact.
+// The other module has no part in them. Offset and length are added in 64 bits, where their sum is exact.
 pub fn judge_send(t: Transfer, request: &[u8]) -> Verdict
     requires { ⌜ 12 ≤ length (now request) ⌝ }
-    ensures { λ r. ⌜ r ≡ verdict (transferChecks t (sendOf (now (request .entry)))) ⌝ }
+    ensures { λ r. ⌜ ((given : ℕ) (taken : Bool) → r ≡ verdict (transferChecks t given taken (sendOf (now (request .entry))))) ⌝ }
 {
     let p = t.phase;
     let n = device_phase::phase_number(p);
@@ -26,7 +27,7 @@ pub fn judge_send(t: Transfer, request: &[u8]) -> Verdict
         | (size == 0)
         | (LONGEST_PIECE < size)
         | ((AREA_SIZE as u64) < end);
-    let out_of_turn = !((n == 1) & (context == t.contexts));
+    let out_of_turn = !((n == 1) & (context == t.current));
     let elsewhere = !(offset == t.received);
     if wrong {
         return Verdict::Refused(Refusal::Status { status: 3, ext: 0 });

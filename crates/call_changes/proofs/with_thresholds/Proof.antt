@@ -9,7 +9,7 @@ returns : tie.Need-returns
 returns c =
     let k = c .before .before .before in
     let a = k .before .args in
-    λ i. a .d with-thresholds (a .thresholds) with-trips (k .trips .ensures i)
+    λ i. record { device = a .d with-thresholds (a .thresholds) with-trips (k .trips .ensures i); given = a .given }
 
 -- by search: trips-requires
 pub with-thresholds-spec : {M : Type 1} → statement M

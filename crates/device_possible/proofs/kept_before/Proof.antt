@@ -7,8 +7,8 @@ use Rattle.device_possible.proofs.kept_before.Tie as tie
 
 returns : tie.Need-returns
 unfolding keptBefore
-returns c = simp (c .before .possible-parts .ensures, c .possible-before .ensures)
+returns c = simp (c .before .possible-parts-alone .ensures, c .possible-before .ensures)
 
--- by search: possible-parts-requires, possible-before-requires
+-- by search: possible-parts-alone-requires, possible-before-requires
 pub kept-before-spec : {M : Type 1} → statement M
 kept-before-spec = tie.close (tie.spec (λ c κs. search needs) (λ c κs. search needs) returns)

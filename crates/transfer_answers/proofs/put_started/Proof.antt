@@ -7,12 +7,11 @@ use Rattle.transfer_answers.proofs.put_started.Tie as tie
 returns : tie.Need-returns
 returns c = simp (c .before .before .before .before .before .before .put-at .ensures, c .before .before .copy .ensures)
 
--- by search: slice-aggregate-put-at, cast-put-at, add-put-at, put-at-requires, slice-aggregate-copy, copy-requires, same-length
+-- by search: slice-aggregate-put-at, add-put-at, put-at-requires, slice-aggregate-copy, copy-requires, same-length
 pub put-started-spec : {M : Type 1} → statement M
 put-started-spec =
     tie.close
     (tie.spec
-    (λ c. search needs)
     (λ c. search needs)
     (λ c. search needs)
     (λ c κs. search needs)

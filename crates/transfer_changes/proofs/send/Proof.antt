@@ -1,6 +1,6 @@
 -- `transfer_changes::send` meets its contract. What acceptance says of the numbers puts the part inside the area, and the part that is lent comes back with the piece in it.
 -- Assumes nothing.
-use mathlib.Core.{Path.{_∙_, ap}, List.{List, []}}
+use mathlib.Core.{Path.{_∙_, ap}, Bool.false, List.{List, []}}
 use Prim.Native.Nat.{ℕ, _+_, _-_, _≤_}
 use native.Mathlib.Omega.{arith}
 use lib.ListN.{length, take, drop}
@@ -15,7 +15,7 @@ fits : (c : tie.After-word2) → SendFits (c .before .before .before .before .ar
 fits c =
     let a = c .before .before .before .before .args in
     let q = a .request .now in
-    rw (c .before .word .ensures, c .word2 .ensures) (send-fits (a .t) (numberAt 4 0 q) (numberAt 4 4 q) (numberAt 4 8 q) (drop 12 q) (c .before .before .before .before .pre .1 .1))
+    rw (c .before .word .ensures, c .word2 .ensures) (send-fits (a .t) (numberAt 4 0 q) (numberAt 4 4 q) (numberAt 4 8 q) (drop 12 q) (c .before .before .before .before .pre .1 .1 0 false))
 
 part-put-piece-end : tie.Need-part-put-piece-end
 part-put-piece-end c = let f = fits c in omega (arith, c .before .before .before .before .pre .0)
@@ -28,7 +28,7 @@ put-piece-requires c κs =
     let h : k .before .word .result + k .word2 .result ≤ length (a .area .now) = omega (arith, k .before .before .before .before .pre .0) in
     let q = a .request .now in
     let short : k .word2 .result ≤ 512 =
-    rw (k .word2 .ensures) (piece-short (a .t) (numberAt 4 0 q) (numberAt 4 4 q) (numberAt 4 8 q) (drop 12 q) (k .before .before .before .before .pre .1 .1)) in
+    rw (k .word2 .ensures) (piece-short (a .t) (numberAt 4 0 q) (numberAt 4 4 q) (numberAt 4 8 q) (drop 12 q) (k .before .before .before .before .pre .1 .1 0 false)) in
     (rw (rest 12 q, part-long (k .before .word .result) (k .word2 .result) (a .area .now) [] h) (omega arith), rw (rest 12 q) (omega (arith, f .whole, short)))
 
 add-received : tie.Need-add-received
@@ -41,7 +41,7 @@ returns c =
     let f = fits k in
     let h : k .before .word .result + k .word2 .result ≤ length (a .area .now) = omega (arith, k .before .before .before .before .pre .0) in
     record {
-      transfer-is = simp (k .word2 .ensures);
+      transfer-is = λ given. simp (k .word2 .ensures);
       area-is = lent-copy (k .before .word .result) (k .word2 .result) (a .area .now) _ h (drop 12 (a .request .now)) (omega arith)
           (c .before .before .before .put-piece .ensures ∙ ap (λ (z : List ℕ). splice 0 z (take (k .before .word .result + k .word2 .result - k .before .word .result) (drop (k .before .word .result) (a .area .now)))) (rest 12 (a .request .now)))
           ∙ ap (λ (o : ℕ). splice o (drop 12 (a .request .now)) (a .area .now)) (k .before .word .ensures);

@@ -9,7 +9,7 @@ use Rattle.transfer_finish_checks.proofs.judge_finish.Tie as tie
 
 returns : tie.Need-returns
 unfolding verdict
-returns c =
+returns c = λ given taken.
     let k = c .before .before .before in
     let q = k .before .before .before .before .before .args .request .now in
     let zero = zero-more 1 1 2 q (zero-first 1 1 q (k .before .byte2 .ensures)) (k .half .ensures) in
@@ -17,7 +17,7 @@ returns c =
 
 returns-2 : tie.Need-returns-2
 unfolding verdict
-returns-2 c =
+returns-2 c = λ given taken.
     let k = c .before .before .before .before in
     let q = k .before .before .before .before .before .args .request .now in
     let zero = zero-more 1 1 2 q (zero-first 1 1 q (k .before .byte2 .ensures)) (k .half .ensures) in
@@ -25,7 +25,7 @@ returns-2 c =
 
 returns-3 : tie.Need-returns-3
 unfolding verdict
-returns-3 c =
+returns-3 c = λ given taken.
     let l = c .before .before .before in
     let k = l .before .before in
     let q = k .before .before .before .before .before .args .request .now in
@@ -35,7 +35,7 @@ returns-3 c =
 
 returns-4 : tie.Need-returns-4
 unfolding verdict
-returns-4 c =
+returns-4 c = λ given taken.
     let l = c .before .before .before .before in
     let k = l .before .before in
     let q = k .before .before .before .before .before .args .request .now in
@@ -45,7 +45,7 @@ returns-4 c =
 
 returns-5 : tie.Need-returns-5
 unfolding verdict
-returns-5 c =
+returns-5 c = λ given taken.
     let l = c .before .before .before .before in
     let k = l .before .before in
     let q = k .before .before .before .before .before .args .request .now in

@@ -7,26 +7,26 @@ use Rattle.transfer_finish_checks.proofs.judge_query.Tie as tie
 
 returns : tie.Need-returns
 unfolding verdict
-returns c =
+returns c = λ given taken.
     let k = c .before .before in
     simp (← k .before .word .ensures, ← k .live .ensures) (simp (c .if1 .taken))
 
 returns-2 : tie.Need-returns-2
 unfolding verdict
-returns-2 c =
+returns-2 c = λ given taken.
     let k = c .before .before .before in
     simp (← k .before .word .ensures, ← k .live .ensures) (simp (← k .before .before .phase-number .ensures, c .before .if1 .left, c .if2 .taken))
 
 returns-3 : tie.Need-returns-3
 unfolding verdict
-returns-3 c =
+returns-3 c = λ given taken.
     let k = c .before .before .before .before in
     simp (← k .before .word .ensures, ← k .live .ensures)
     (simp (← k .before .before .phase-number .ensures, c .before .before .if1 .left, c .before .if2 .left, c .if3 .taken))
 
 returns-4 : tie.Need-returns-4
 unfolding verdict
-returns-4 c =
+returns-4 c = λ given taken.
     let l = c .before .before in
     let k = l .before .before .before in
     simp (← k .before .word .ensures, ← k .live .ensures)
@@ -34,7 +34,7 @@ returns-4 c =
 
 returns-5 : tie.Need-returns-5
 unfolding verdict
-returns-5 c =
+returns-5 c = λ given taken.
     let l = c .before .before .before in
     let k = l .before .before .before in
     simp (← k .before .word .ensures, ← k .live .ensures)
@@ -42,7 +42,7 @@ returns-5 c =
 
 returns-6 : tie.Need-returns-6
 unfolding verdict
-returns-6 c =
+returns-6 c = λ given taken.
     let l = c .before .before .before in
     let k = l .before .before .before in
     simp (← k .before .word .ensures, ← k .live .ensures)

@@ -8,27 +8,27 @@ use Rattle.transfer_send_checks.proofs.judge_send.Tie as tie
 
 returns : tie.Need-returns
 unfolding verdict
-returns c =
+returns c = λ given taken.
     let k = c .before .before .before in
     simp (length-drop, ← k .before .before .word .ensures, ← k .before .word2 .ensures, ← k .word3 .ensures, c .if1 .taken)
 
 returns-2 : tie.Need-returns-2
 unfolding verdict
-returns-2 c =
+returns-2 c = λ given taken.
     let k = c .before .before .before .before in
     let n = k .before .before .before .phase-number in
     simp (length-drop, ← n .ensures, ← k .before .before .word .ensures, ← k .before .word2 .ensures, ← k .word3 .ensures, c .before .if1 .left, c .if2 .taken)
 
 returns-3 : tie.Need-returns-3
 unfolding verdict
-returns-3 c =
+returns-3 c = λ given taken.
     let k = c .before .before .before .before .before in
     let n = k .before .before .before .phase-number in
     simp (length-drop, ← n .ensures, ← k .before .before .word .ensures, ← k .before .word2 .ensures, ← k .word3 .ensures, c .before .before .if1 .left, c .before .if2 .left, c .if3 .taken)
 
 returns-4 : tie.Need-returns-4
 unfolding verdict
-returns-4 c =
+returns-4 c = λ given taken.
     let k = c .before .before .before .before .before in
     let n = k .before .before .before .phase-number in
     simp (length-drop, ← n .ensures, ← k .before .before .word .ensures, ← k .before .word2 .ensures, ← k .word3 .ensures, c .before .before .if1 .left, c .before .if2 .left, c .if3 .left)
