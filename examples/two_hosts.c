@@ -1,10 +1,13 @@
-/* Two hosts, one module: the bench updates the module's firmware while a laptop tries to do the same, and is refused. Before and
- * after it asks for the module's health. The record is kept in its slots at every step, as module.h says under "Power loss".
+/* Two hosts, two modules, one staging area: the bench updates module 0 while a laptop tries to do the same, and is refused; it is
+ * refused module 1 too while the area is the bench's, and comes again later. Before and after the bench asks for module 0's health.
+ * The record is kept in its slots at every step, as module.h says under "Power loss".
  * examples/build says how to build it; examples/two_hosts.expected is what it prints. */
 #include <stdio.h>
 #include <string.h>
 
 #include "module.h"
+
+enum { BENCHS = 0, LAPTOPS = 1 }; /* the modules that each updates */
 
 enum { PAYLOAD_SIZE = 1100, IMAGE_RECORDS = 10, IMAGE_SIZE = IMAGE_RECORDS * MODULE_IMAGE_RECORD, VERSION = 7 };
 
@@ -54,7 +57,7 @@ static int keep(void)
     return 1;
 }
 
-/* A new module, once in its life. */
+/* A new cabinet, once in its life. */
 static int make(void)
 {
     if (slots_fresh(slots, sizeof slots) != 0)
@@ -63,30 +66,31 @@ static int make(void)
     return 1;
 }
 
-/* Power comes back, to whatever ordinary memory holds by then. */
+/* Power comes back to both modules, and to whatever ordinary memory holds by then. */
 static int power_up(void)
 {
     memset(record, 0xEE, sizeof record);
     memset(area, 0xEE, sizeof area);
     return slots_read(slots, sizeof slots, record, sizeof record) == 0
-        && module_power(record, sizeof record, area, sizeof area) == 0 && keep();
+        && cabinet_power(record, sizeof record, area, sizeof area, BENCHS) == 0
+        && cabinet_power(record, sizeof record, area, sizeof area, LAPTOPS) == 0 && keep();
 }
 
-/* The module's sensors have been read. */
+/* Module 0's sensors have been read. */
 static int reading(uint8_t spare, uint16_t media, uint16_t controller)
 {
-    return module_reading(record, sizeof record, area, sizeof area, spare, media, controller) == 0 && keep();
+    return cabinet_reading(record, sizeof record, area, sizeof area, BENCHS, spare, media, controller) == 0 && keep();
 }
 
-static int tick(void) { return module_tick(record, sizeof record, area, sizeof area) == 0 && keep(); }
+static int tick(void) { return cabinet_tick(record, sizeof record, area, sizeof area) == 0 && keep(); }
 
 /* One call, with a line that says who called what and what came of it. 1 where the call was accepted. */
-static int call(const char *host, const char *name, uint64_t function, const uint8_t *request, size_t length)
+static int call(const char *host, uint64_t module, const char *name, uint64_t function, const uint8_t *request, size_t length)
 {
-    int32_t given = module_call(record, sizeof record, area, sizeof area, MODULE_REVISION, function, request, length,
-                                answer, sizeof answer);
+    int32_t given = cabinet_call(record, sizeof record, area, sizeof area, module, MODULE_REVISION, function, request, length,
+                                 answer, sizeof answer);
 
-    printf("%-7s %-13s ", host, name);
+    printf("%-7s module %u %-13s ", host, (unsigned)module, name);
     if (given < 0) {
         printf("gives R%d: nothing was written\n", (int)-given);
         return 0;
@@ -116,12 +120,12 @@ static int send(const char *host, uint32_t context, uint32_t offset, const uint8
     put(request + 4, 4, offset);
     put(request + 8, 4, length);
     memcpy(request + MODULE_SEND_HEAD, piece, length);
-    return call(host, "Send", MODULE_SEND, request, MODULE_SEND_HEAD + length);
+    return call(host, BENCHS, "Send", MODULE_SEND, request, MODULE_SEND_HEAD + length);
 }
 
-static int start(const char *host, uint32_t *context)
+static int start(const char *host, uint64_t module, uint32_t *context)
 {
-    int accepted = call(host, "Start", MODULE_START, nothing, 0);
+    int accepted = call(host, module, "Start", MODULE_START, nothing, 0);
 
     if (accepted)
         *context = (uint32_t)get(answer + 4, 4);
@@ -133,7 +137,7 @@ static int finish(const char *host, uint32_t context)
     uint8_t request[8] = {0};
 
     put(request + 4, 4, context);
-    return call(host, "Finish", MODULE_FINISH, request, sizeof request);
+    return call(host, BENCHS, "Finish", MODULE_FINISH, request, sizeof request);
 }
 
 static int query(const char *host, uint32_t context)
@@ -141,12 +145,12 @@ static int query(const char *host, uint32_t context)
     uint8_t request[4];
 
     put(request, 4, context);
-    return call(host, "Query", MODULE_QUERY, request, sizeof request);
+    return call(host, BENCHS, "Query", MODULE_QUERY, request, sizeof request);
 }
 
 static void show_versions(void)
 {
-    if (call("bench", "Get FW Info", MODULE_GET_FW_INFO, nothing, 0))
+    if (call("bench", BENCHS, "Get FW Info", MODULE_GET_FW_INFO, nothing, 0))
         printf("        running version %u, staged version %u\n", (unsigned)get(answer + 28, 8), (unsigned)get(answer + 36, 8));
 }
 
@@ -157,14 +161,14 @@ static int set_media_alarm(void)
 
     put(request, 2, 2);
     put(request + 3, 2, 560);
-    return call("bench", "Set Threshold", MODULE_SET_THRESHOLD, request, sizeof request);
+    return call("bench", BENCHS, "Set Threshold", MODULE_SET_THRESHOLD, request, sizeof request);
 }
 
 static double degrees(uint64_t word) { return (word & 0x8000 ? -1 : 1) * (double)(word & 0x7FFF) / 16; }
 
 static void show_health(void)
 {
-    if (call("bench", "Get Health", MODULE_GET_HEALTH, nothing, 0))
+    if (call("bench", BENCHS, "Get Health", MODULE_GET_HEALTH, nothing, 0))
         printf("        spare %u, media %.1f, controller %.1f, trips %u\n", answer[13], degrees(get(answer + 16, 2)),
                degrees(get(answer + 18, 2)), answer[15]);
 }
@@ -197,7 +201,7 @@ int main(void)
 
     if (!make_image(image))
         return 1;
-    /* This module is new at each start of the program. Yours is made once in its life; after that it only comes up again. */
+    /* This cabinet is new at each start of the program. Yours is made once in its life; after that it only comes up again. */
     if (!make() || !power_up())
         return 1;
     show_versions();
@@ -205,13 +209,14 @@ int main(void)
         return 1;
     show_health();
 
-    if (!start("bench", &context))
+    if (!start("bench", BENCHS, &context))
         return 1;
     printf("        context %u\n", (unsigned)context);
-    start("laptop", &other);
+    start("laptop", BENCHS, &other);
+    start("laptop", LAPTOPS, &other);
     send_image(context, image);
     finish("bench", context);
-    start("laptop", &other);
+    start("laptop", LAPTOPS, &other);
 
     query("bench", context);
     for (int i = 0; i < 8; i++)
@@ -221,7 +226,10 @@ int main(void)
     if (!query("bench", context))
         return 1;
     printf("        staged version %u\n", (unsigned)get(answer + 4, 8));
-    start("laptop", &other);
+    start("laptop", BENCHS, &other);
+    if (!start("laptop", LAPTOPS, &other))
+        return 1;
+    printf("        context %u\n", (unsigned)other);
 
     if (!power_up())
         return 1;

@@ -1,33 +1,36 @@
--- What was decoded and tested decides what is taken over: a possible record stays, one that was kept before is written again, anything else is refused.
+-- A record of a module that was alone: taken over, or refused.
 -- Assumes nothing.
-use mathlib.Core.{Path.{_≡_, sym, _∙_, ap}, Bool.{Bool, true, false}, List.List}
+use mathlib.Core.{Path.{_≡_, refl, sym, _∙_, ap}, Bool.{Bool, true, false, not, _&&_, _||_}, List.List}
 use Prim.Native.Nat.{ℕ}
 use lib.{IntN.{ℤ, pos}, ListN.length}
-use Rattle.rules.{specs.Tests.if_then_else_, specs.Record.possible, specs.Adopt.{keptBefore, adopted}, specs.declared.Device.Device}
-use Rattle.device_bytes.{specs.Encoding.{encodedSize, encodeOf, decodeOf}, proofs.Refused.before-whole}
+use borrow.Author.Tests.{not-true, not-false, eqb-true}
+use Rattle.rules.{specs.Tests.{if_then_else_, _=?_}, specs.Adopt.{possibleAlone, keptBefore, adoptable, adoptedCabinet}, specs.declared.Device.Device, specs.declared.Cabinet.Cabinet}
+use Rattle.rules.proofs.page.Choice.{and-true}
+use Rattle.device_bytes.specs.Encoding.{decodeOf}
+use Rattle.cabinet_bytes.specs.Encoding.{cabinetSize, encodeCabinet}
 use Rattle.abi_keep.specs.Kept.{refusal}
-use Rattle.abi.specs.Abi.{Adopted}
+use Rattle.abi.specs.Abi.{takenOver, Adopted}
 
-module _ (bytes : List ℕ) {d : Device} {p : Bool} (decoded : d ≡ decodeOf bytes) (possible-is : p ≡ possible d) where
-  now : {b : Bool} → p ≡ b → possible (decodeOf bytes) ≡ b
-  now e = ap possible (sym decoded) ∙ sym possible-is ∙ e
+module _ (old bytes : List ℕ) {d : Device} {p q : Bool} (decoded : d ≡ decodeOf old) (possible-is : p ≡ possibleAlone d) (before-is : q ≡ keptBefore d) where
+  tested : ((p || q) && length bytes =? cabinetSize) ≡ takenOver old bytes
+  tested =
+      (λ i. (possible-is i || before-is i) && length bytes =? cabinetSize) ∙ ap (λ (x : Device). adoptable x && length bytes =? cabinetSize) decoded
 
-  pub stays : p ≡ true → Adopted bytes (pos 0) bytes
-  stays e = record { number-is = rw (now e); record-is = rw (now e) }
+  settled : {b : Bool} {number : ℤ} {bytes′ : List ℕ} → takenOver old bytes ≡ b → number ≡ (if b then pos 0 else refusal 3)
+      → bytes′ ≡ (if b then encodeCabinet (adoptedCabinet (decodeOf old)) else bytes) → Adopted old bytes number bytes′
+  settled e n r =
+      record {
+        number-is = n ∙ ap (λ (t : Bool). if t then pos 0 else refusal 3) (sym e);
+        record-is = r ∙ ap (λ (t : Bool). if t then encodeCabinet (adoptedCabinet (decodeOf old)) else bytes) (sym e);
+      }
 
-  module _ {q : Bool} (before-is : q ≡ keptBefore d) (not-now : p ≡ false) where
-    before : {b : Bool} → q ≡ b → keptBefore (decodeOf bytes) ≡ b
-    before e = ap keptBefore (sym decoded) ∙ sym before-is ∙ e
+  pub refused : not ((p || q) && length bytes =? cabinetSize) ≡ true → Adopted old bytes (refusal 3) bytes
+  refused e = settled {b = false} (sym tested ∙ not-true _ e) refl refl
 
-    pub refused : q ≡ false → Adopted bytes (refusal 3) bytes
-    refused e = record { number-is = rw (now not-now, before e); record-is = rw (now not-now, before e) }
+  module _ (taken : not ((p || q) && length bytes =? cabinetSize) ≡ false) where
+    pub whole : length bytes ≡ cabinetSize
+    whole = eqb-true (length bytes) cabinetSize (and-true (p || q) (length bytes =? cabinetSize) (not-false _ taken) .1)
 
-    pub whole : q ≡ true → length bytes ≡ encodedSize
-    whole e = before-whole bytes (before e)
-
-    pub taken : {e : Device} {number : ℤ} {bytes′ : List ℕ} → q ≡ true → e ≡ adopted d → number ≡ pos 0 → bytes′ ≡ encodeOf e → Adopted bytes number bytes′
-    taken was over number-is written =
-        record {
-          number-is = number-is ∙ rw (now not-now, before was);
-          record-is = written ∙ ap encodeOf (over ∙ ap adopted decoded) ∙ rw (now not-now, before was);
-        }
+    pub taken-over : {c : Cabinet} {bytes′ : List ℕ} → c ≡ adoptedCabinet d → bytes′ ≡ encodeCabinet c → Adopted old bytes (pos 0) bytes′
+    taken-over over written =
+        settled {b = true} (sym tested ∙ not-false _ taken) refl (written ∙ ap encodeCabinet (over ∙ ap adoptedCabinet decoded))

@@ -3,7 +3,7 @@
 use mathlib.Core.{Path.{_≡_, sym, _∙_}, List.List}
 use Prim.Native.Nat.{ℕ}
 use lib.IntN.{ℤ}
-use Rattle.rules.specs.Module.{Result}
+use Rattle.rules.specs.Cabinet.{Result}
 use Rattle.abi.specs.Abi.{Called, Happened, Made, Adopted}
 
 pub calls-agree : (result : Result) (bytes : List ℕ) {m n : ℤ} {bytes₁ bytes₂ area₁ area₂ answer₁ answer₂ : List ℕ}
@@ -23,5 +23,5 @@ events-agree result bytes p q = (p .number-is ∙ sym (q .number-is), p .record-
 pub fresh-agree : (bytes : List ℕ) {m n : ℤ} {bytes₁ bytes₂ : List ℕ} → Made bytes m bytes₁ → Made bytes n bytes₂ → (m ≡ n) × (bytes₁ ≡ bytes₂)
 fresh-agree bytes p q = (p .number-is ∙ sym (q .number-is), p .record-is ∙ sym (q .record-is))
 
-pub adopted-agree : (bytes : List ℕ) {m n : ℤ} {bytes₁ bytes₂ : List ℕ} → Adopted bytes m bytes₁ → Adopted bytes n bytes₂ → (m ≡ n) × (bytes₁ ≡ bytes₂)
-adopted-agree bytes p q = (p .number-is ∙ sym (q .number-is), p .record-is ∙ sym (q .record-is))
+pub adopted-agree : (old bytes : List ℕ) {m n : ℤ} {bytes₁ bytes₂ : List ℕ} → Adopted old bytes m bytes₁ → Adopted old bytes n bytes₂ → (m ≡ n) × (bytes₁ ≡ bytes₂)
+adopted-agree old bytes p q = (p .number-is ∙ sym (q .number-is), p .record-is ∙ sym (q .record-is))

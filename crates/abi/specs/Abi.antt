@@ -1,15 +1,16 @@
--- What the C functions promise: the number that they give and every buffer at their end, by equations. The record is bytes (crate device_bytes); what a call,
+-- What the C functions promise: the number that they give and every buffer at their end, by equations. The record is bytes (crate cabinet_bytes); what a call,
 -- a tick, a power cycle and a reading come to is document 01's (crate rules); what of it is told and kept is abi_keep's.
 -- Assumes nothing.
-use mathlib.Core.{Path._≡_, List.List}
+use mathlib.Core.{Path._≡_, Bool.{Bool, _&&_}, List.List}
 use Prim.Native.Nat.{ℕ}
 use lib.IntN.{ℤ, pos}
 use lib.ListN.{length}
 use Rattle.rules.specs.Tests.{if_then_else_, _=?_}
-use Rattle.rules.specs.Record.{fresh, possible}
-use Rattle.rules.specs.Adopt.{keptBefore, adoptable, adopted}
-use Rattle.rules.specs.Module.{Result}
-use Rattle.device_bytes.specs.Encoding.{encodedSize, encodeOf, decodeOf}
+use Rattle.rules.specs.Record.{freshCabinet}
+use Rattle.rules.specs.Adopt.{adoptable, adoptedCabinet}
+use Rattle.rules.specs.Cabinet.{Result}
+use Rattle.device_bytes.specs.Encoding.{decodeOf}
+use Rattle.cabinet_bytes.specs.Encoding.{cabinetSize, encodeCabinet}
 use Rattle.abi_keep.specs.Kept.{refusal, told, kept}
 
 -- a call, with the result that the rules give the record in these bytes
@@ -24,18 +25,15 @@ pub record Happened (result : Result) (bytes : List ℕ) (number : ℤ) (bytes�
   pub number-is : number ≡ told (result .reply)
   pub record-is : bytes′ ≡ kept result bytes
 
--- a fresh record, written where there are 128 bytes for it
+-- a fresh record, written where there are 288 bytes for it
 pub record Made (bytes : List ℕ) (number : ℤ) (bytes′ : List ℕ) : Type 0 where
-  pub number-is : number ≡ (if length bytes =? encodedSize then pos 0 else refusal 3)
-  pub record-is : bytes′ ≡ (if length bytes =? encodedSize then encodeOf fresh else bytes)
+  pub number-is : number ≡ (if length bytes =? cabinetSize then pos 0 else refusal 3)
+  pub record-is : bytes′ ≡ (if length bytes =? cabinetSize then encodeCabinet freshCabinet else bytes)
 
--- a record that may have been kept before T-03 or T-08, taken over: one that is possible stays as it is, byte for byte
-abbrev pub adoptedBytes : (bytes : List ℕ) → List ℕ
-adoptedBytes bytes =
-    if possible (decodeOf bytes) then bytes
-    else if keptBefore (decodeOf bytes) then encodeOf (adopted (decodeOf bytes))
-    else bytes
+-- a record of a module that was alone, of any library before T-09, taken over where there are 288 bytes for it; `bytes` are those before
+abbrev pub takenOver : (old bytes : List ℕ) → Bool
+takenOver old bytes = adoptable (decodeOf old) && length bytes =? cabinetSize
 
-pub record Adopted (bytes : List ℕ) (number : ℤ) (bytes′ : List ℕ) : Type 0 where
-  pub number-is : number ≡ (if adoptable (decodeOf bytes) then pos 0 else refusal 3)
-  pub record-is : bytes′ ≡ adoptedBytes bytes
+pub record Adopted (old bytes : List ℕ) (number : ℤ) (bytes′ : List ℕ) : Type 0 where
+  pub number-is : number ≡ (if takenOver old bytes then pos 0 else refusal 3)
+  pub record-is : bytes′ ≡ (if takenOver old bytes then encodeCabinet (adoptedCabinet (decodeOf old)) else bytes)

@@ -2,11 +2,9 @@
 ghost use mathlib.Core.Path.{_≡_};
 ghost use Prim.Native.Nat.{_≤_};
 ghost use lib.IntN.{pos};
-ghost use lib.ListN.{length};
 ghost use Rattle.rules.specs.Numbers.{answerRoom};
-ghost use Rattle.device_bytes.specs.Encoding.{encodedSize, encodeOf};
-ghost use Rattle.abi_keep.specs.Kept.{refusal, told, written, keptBy, Leaves, Keepable};
-use rules::Device;
+ghost use Rattle.abi_keep.specs.Kept.{refusal, told, writes, keptBy, Leaves, Keepable, KeepableNamed};
+use rules::Cabinet;
 use rules::Refusal;
 use rules::Reply;
 use rules::Verdict;
@@ -24,17 +22,8 @@ fn length(n: usize) -> i32
     n as i32
 }
 
-// Writes the record's bytes, and gives the answer's length.
-pub fn write(d: Device, bytes: &mut [u8], n: usize) -> i32
-    requires { ⌜ (length (now bytes) ≡ encodedSize) × (n ≤ answerRoom) ⌝ }
-    ensures { λ r. ⌜ Leaves (pos n) (encodeOf d) r (now (bytes .exit)) ⌝ }
-{
-    device_encode::put(d, bytes);
-    length(n)
-}
-
-// What the caller is told: the answer's length, or the R number negated.
-fn told(reply: Reply) -> i32
+// What the caller is told.
+fn number(reply: Reply) -> i32
     requires { ⌜ reply .length ≤ answerRoom ⌝ }
     ensures { λ r. ⌜ r ≡ told reply ⌝ }
 {
@@ -48,9 +37,9 @@ fn told(reply: Reply) -> i32
     }
 }
 
-// The record is written where the call, tick or power cycle was accepted or an attempt is counted.
-fn written(verdict: Verdict) -> bool
-    ensures { λ r. ⌜ r ≡ written verdict ⌝ }
+// The record is written where the event was accepted or an attempt is counted.
+fn writes(verdict: Verdict) -> bool
+    ensures { λ r. ⌜ r ≡ writes verdict ⌝ }
 {
     match verdict {
         Verdict::Accepted => true,
@@ -61,17 +50,30 @@ fn written(verdict: Verdict) -> bool
     }
 }
 
-// What the caller is told; and its record, written in one place, so that this is compiled into its callers and the record need not be put together for it.
-pub fn keep(reply: Reply, d: Device, bytes: &mut [u8]) -> i32
+// A tick's: all of the record.
+pub fn keep(reply: Reply, c: Cabinet, bytes: &mut [u8]) -> i32
     requires { ⌜ Keepable reply (now bytes) ⌝ }
-    ensures { λ r. ⌜ Leaves (told reply) (keptBy (reply .verdict) d (now (bytes .entry))) r (now (bytes .exit)) ⌝ }
+    ensures { λ r. ⌜ Leaves (told reply) (keptBy (reply .verdict) c (now (bytes .entry))) r (now (bytes .exit)) ⌝ }
 {
     let verdict = reply.verdict;
-    let number = told(reply);
-    let written = written(verdict);
-    if written {
-        device_encode::put(d, bytes);
-        return number;
+    let changed = writes(verdict);
+    if changed {
+        cabinet_encode::put(c, bytes);
+        return number(reply);
     }
-    number
+    number(reply)
+}
+
+// Any other event's: its module's bytes and the contexts given out, since the rest is as it was.
+pub fn keep_named(reply: Reply, c: Cabinet, named: u64, bytes: &mut [u8]) -> i32
+    requires { ⌜ KeepableNamed reply c named (now bytes) ⌝ }
+    ensures { λ r. ⌜ Leaves (told reply) (keptBy (reply .verdict) c (now (bytes .entry))) r (now (bytes .exit)) ⌝ }
+{
+    let verdict = reply.verdict;
+    let changed = writes(verdict);
+    if changed {
+        cabinet_encode::put_named(c, named, bytes);
+        return number(reply);
+    }
+    number(reply)
 }

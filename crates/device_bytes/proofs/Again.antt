@@ -12,7 +12,7 @@ use Rattle.device_bytes.specs.Encoding.{flag, encodeOf, phaseOf, record?
 use Rattle.device_bytes.proofs.Fine.{Fine, fine}
 
 -- what a list's number is written as is the list
-le-ofLe : (l : List ℕ) → Bytes l → le (length l) (ofLe l) ≡ l
+pub le-ofLe : (l : List ℕ) → Bytes l → le (length l) (ofLe l) ≡ l
 le-ofLe [] h = refl
 le-ofLe (x ∷ xs) h =
     let small : x < 256 = h 0 .fits in
@@ -21,7 +21,7 @@ le-ofLe (x ∷ xs) h =
     rw (low, high, le-ofLe xs (λ (k : ℕ). h (suc k))) refl
 
 -- zeros are what tests as zeros
-zeros-are : (l : List ℕ) → zeros? l ≡ true → zeros (length l) ≡ l
+pub zeros-are : (l : List ℕ) → zeros? l ≡ true → zeros (length l) ≡ l
 unfolding zeros?
 zeros-are [] e = refl
 zeros-are (x ∷ xs) e =
@@ -42,7 +42,7 @@ flag-number (suc zero) h = refl
 flag-number (suc (suc n)) h = absurd (omega arith)
 
 -- a run of places that the next places go on
-also : (at n k : ℕ) (s : List ℕ) {x : List ℕ} → x ≡ take n (drop at s) → x ++ take k (drop (at + n) s) ≡ take (n + k) (drop at s)
+pub also : (at n k : ℕ) (s : List ℕ) {x : List ℕ} → x ≡ take n (drop at s) → x ++ take k (drop (at + n) s) ≡ take (n + k) (drop at s)
 also at n k s e =
     ap (λ (l : List ℕ). l ++ take k (drop (at + n) s)) e
     ∙ ap (λ (l : List ℕ). take n (drop at s) ++ take k l) (sym (drop-drop n at s))

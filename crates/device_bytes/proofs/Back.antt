@@ -10,7 +10,7 @@ use Rattle.device_bytes.specs.Encoding.{flag, firstBytes, transferBytes,
 
 -- what the types say of a record's fields
 pub record InRange (d : Device) : Type 0 where
-  pub contexts : d .transfer .contexts < 256 ^ 4
+  pub current : d .transfer .current < 256 ^ 4
   pub received : d .transfer .received < 256 ^ 4
   pub ticks : d .transfer .ticks < 256 ^ 1
   pub running : d .transfer .running < 256 ^ 8
@@ -63,7 +63,7 @@ module _ (d : Device) (h : InRange d) where
   record-back = λ i. record {
     transfer = record {
       phase = phase-back (d .transfer .phase) i;
-      contexts = ofLe-le 4 (d .transfer .contexts) (h .contexts) i;
+      current = ofLe-le 4 (d .transfer .current) (h .current) i;
       received = ofLe-le 4 (d .transfer .received) (h .received) i;
       ticks = ofLe-le 1 (d .transfer .ticks) (h .ticks) i;
       running = ofLe-le 8 (d .transfer .running) (h .running) i;

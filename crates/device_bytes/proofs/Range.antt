@@ -34,7 +34,7 @@ in-range d vs is =
     let s = LL.owed S.the-type S′.the-laws (d .security) _ (o .1 .1 .0) in
     let r = LL.owed R.the-type R′.the-laws (d .reading) _ (o .1 .1 .1 .0) in
     record {
-      contexts = t .1 .0 .1;
+      current = t .1 .0 .1;
       received = t .1 .1 .0 .1;
       ticks = t .1 .1 .1 .0 .1;
       reason = t .1 .1 .1 .1 .0 .1;

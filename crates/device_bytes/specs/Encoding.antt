@@ -1,4 +1,4 @@
--- The device record as 128 bytes, little-endian, as a host keeps it: its numbers, its passphrase, and zeros where nothing stands yet.
+-- A module's device record as 128 bytes, little-endian, as a host keeps it: its numbers, its passphrase, and zeros where nothing stands yet.
 -- Bytes that are no record decode to a record that is not possible, so that R3 refuses them.
 -- Assumes nothing.
 use Prim.Native.Nat.{ℕ}
@@ -28,9 +28,9 @@ abbrev pub firstBytes : Device → List ℕ
 firstBytes d =
     le 1 (phaseNumber (d .transfer .phase)) ++ stateBytes (d .security) ++ le 1 (d .transfer .ticks) ++ le 2 (d .thresholds .enable)
 
--- 8 to 11 contexts given out; 12 to 15 bytes received; 16 to 23 running version; 24 to 31 staged version
+-- 8 to 11 its current context; 12 to 15 bytes received; 16 to 23 running version; 24 to 31 staged version
 abbrev pub transferBytes : Transfer → List ℕ
-transferBytes t = le 4 (t .contexts) ++ le 4 (t .received) ++ le 8 (t .running) ++ le 8 (t .staged)
+transferBytes t = le 4 (t .current) ++ le 4 (t .received) ++ le 8 (t .running) ++ le 8 (t .staged)
 
 -- 32 spare threshold; 33 zero; 34 to 35 media, 36 to 37 controller temperature threshold
 abbrev pub encodedThresholds : Thresholds → List ℕ
@@ -91,7 +91,7 @@ recordOf s =
     record {
       transfer = record {
         phase = phaseOf (numberAt 1 0 s);
-        contexts = numberAt 4 8 s;
+        current = numberAt 4 8 s;
         received = numberAt 4 12 s;
         ticks = numberAt 1 5 s;
         running = numberAt 8 16 s;
@@ -110,7 +110,7 @@ recordOf s =
       trips = numberAt 1 41 s;
     }
 
--- a record that is not possible: a fresh one, but failed, though no context was ever given out
+-- a record that is not possible, however many contexts are given out: a fresh one, but failed, though it was never given one
 unfoldable pub impossible : Device
 impossible = fresh with-transfer (fresh .transfer with-phase Failed)
 

@@ -18,13 +18,13 @@ pub secured : (s : List ℕ) {enabled locked frozen attempts : ℕ} {pass : List
     → record { enabled = eqb enabled 1; locked = eqb locked 1; frozen = eqb frozen 1; attempts = attempts; passphrase = pass } ≡ securityIn s
 secured s e64 e1 e2 e3 e4 = λ i. record { enabled = eqb (e1 i) 1; locked = eqb (e2 i) 1; frozen = eqb (e3 i) 1; attempts = e4 i; passphrase = e64 i }
 
-pub read : (s : List ℕ) {phase contexts received ticks running staged reason faulty enable spare media controller trips : ℕ} {p : Phase} {security : Security} {reading : Reading}
-    → phase ≡ numberAt 1 0 s → p ≡ phaseOf phase → contexts ≡ numberAt 4 8 s → received ≡ numberAt 4 12 s → ticks ≡ numberAt 1 5 s
+pub read : (s : List ℕ) {phase current received ticks running staged reason faulty enable spare media controller trips : ℕ} {p : Phase} {security : Security} {reading : Reading}
+    → phase ≡ numberAt 1 0 s → p ≡ phaseOf phase → current ≡ numberAt 4 8 s → received ≡ numberAt 4 12 s → ticks ≡ numberAt 1 5 s
     → running ≡ numberAt 8 16 s → staged ≡ numberAt 8 24 s → reason ≡ numberAt 1 38 s → faulty ≡ numberAt 1 39 s
     → enable ≡ numberAt 2 6 s → spare ≡ numberAt 1 32 s → media ≡ numberAt 2 34 s → controller ≡ numberAt 2 36 s
     → security ≡ securityIn s → reading ≡ readingIn s → trips ≡ numberAt 1 41 s
     → record {
-      transfer = record { phase = p; contexts = contexts; received = received; ticks = ticks; running = running; staged = staged; reason = reason; faulty = faulty };
+      transfer = record { phase = p; current = current; received = received; ticks = ticks; running = running; staged = staged; reason = reason; faulty = faulty };
       thresholds = record { enable = enable; spare = spare; media = media; controller = controller };
       security = security;
       reading = reading;
@@ -33,7 +33,7 @@ pub read : (s : List ℕ) {phase contexts received ticks running staged reason f
     ≡ recordOf s
 unfolding recordOf
 read s e0 ep e8 e12 e5 e16 e24 e38 e39 e6 e32 e34 e36 e1 e40 e41 = λ i. record {
-  transfer = record { phase = (ep ∙ ap phaseOf e0) i; contexts = e8 i; received = e12 i; ticks = e5 i; running = e16 i; staged = e24 i; reason = e38 i; faulty = e39 i };
+  transfer = record { phase = (ep ∙ ap phaseOf e0) i; current = e8 i; received = e12 i; ticks = e5 i; running = e16 i; staged = e24 i; reason = e38 i; faulty = e39 i };
   thresholds = record { enable = e6 i; spare = e32 i; media = e34 i; controller = e36 i };
   security = e1 i;
   reading = e40 i;

@@ -1,4 +1,4 @@
-// The device record back from bytes. Any bytes of any length decode: those that are no record, to one that is not possible.
+// A module's device record back from bytes. Any bytes of any length decode: those that are no record, to one that is not possible.
 ghost use mathlib.Core.Path.{_≡_};
 ghost use lib.ListN.{length, take, drop};
 ghost use Rattle.rules.specs.Bytes.{zeros?};
@@ -107,7 +107,7 @@ fn to_record(s: &[u8]) -> Device
     let phase = phase_of(bytes_numbers::byte(s, 0));
     let transfer = Transfer {
         phase,
-        contexts: bytes_numbers::word(s, 8),
+        current: bytes_numbers::word(s, 8),
         received: bytes_numbers::word(s, 12),
         ticks: bytes_numbers::byte(s, 5),
         running: bytes_numbers::long(s, 16),
@@ -133,7 +133,8 @@ fn to_record(s: &[u8]) -> Device
     }
 }
 
-fn no_record() -> Device
+// What bytes that are no record say.
+pub fn no_record() -> Device
     ensures { λ r. ⌜ r ≡ impossible ⌝ }
 {
     let fresh = device_record::fresh();

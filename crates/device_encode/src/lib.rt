@@ -1,4 +1,4 @@
-// The device record written as 128 bytes: crates/device_bytes has the places, crates/device_decode reads them back.
+// A module's device record written as 128 bytes: crates/device_bytes has the places, crates/device_decode reads them back.
 // Every byte is written once, in the order of the places, and none is cleared first.
 ghost use mathlib.Core.Path.{_≡_};
 ghost use mathlib.Core.List.{_++_};
@@ -40,7 +40,7 @@ fn put_transfer(t: Transfer, out: &mut [u8])
     requires { ⌜ length (now out) ≡ encodedSize ⌝ }
     ensures { λ r. ⌜ now (out .exit) ≡ splice 8 (transferBytes t) (now (out .entry)) ⌝ }
 {
-    bytes_base::put_at(out, 8, 4, t.contexts as u64);
+    bytes_base::put_at(out, 8, 4, t.current as u64);
     bytes_base::put_at(out, 12, 4, t.received as u64);
     bytes_base::put_at(out, 16, 8, t.running);
     bytes_base::put_at(out, 24, 8, t.staged);

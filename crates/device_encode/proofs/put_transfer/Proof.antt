@@ -14,7 +14,7 @@ returns c =
     let o = p .before .before .before .before .before in
     let k = o .before .before .before .before in
     let t = k .args .t in
-    let first : Placed 8 (le 4 (t .contexts)) (k .args .out .now) _ = record { inside = omega (arith, k .pre); is = o .put-at .ensures } in
+    let first : Placed 8 (le 4 (t .current)) (k .args .out .now) _ = record { inside = omega (arith, k .pre); is = o .put-at .ensures } in
     then (le 8 (t .staged)) (then (le 8 (t .running)) (then (le 4 (t .received)) first (p .put-at2 .ensures)) (q .put-at3 .ensures)) (r .put-at4 .ensures) .is
 
 -- by search: cast-put-at, put-at-requires, cast-put-at-2, put-at-requires-2, put-at-requires-3, put-at-requires-4, same-length
