@@ -1,5 +1,5 @@
-// The fuller trace that layouts are compared by: for each record of a log a line with the answer's bytes in hex, then every field of the device record and the
-// whole staging area. `-` is standard input. Its lines are compared with an independent program's.
+// The fuller trace that layouts are compared by: for each record of a log a line with the answer's bytes in hex, then every field of each module's device record and
+// the whole staging area. `-` is standard input. Its lines are compared with an independent program's.
 ghost use Prim.Native.Nat.{_≤_};
 ghost use mathlib.Core.Path.{_≡_};
 ghost use Rattle.program_logs.specs.Turns.{Standing};
@@ -9,26 +9,26 @@ use program_logs::Logs;
 use program_logs::NAME;
 use program_logs::Turn;
 use rules::AREA_SIZE;
-use rules::Device;
+use rules::Cabinet;
 
 // The text of a part, 120 lines of at most 296 bytes, and that of the end state, two digits for each byte of the area and some short lines: in whole pages.
 const TEXT: usize = 36864;
 
-// A log begins with a fresh module and an area of zeros, and has no heading.
+// A log begins with two fresh modules and an area of zeros, and has no heading.
 fn begin(area: &mut [u8; AREA_SIZE]) -> Answered
     ensures { λ r. ⌜ r .at ≤ 36864 ⌝ }
 {
     *area = [0u8; AREA_SIZE];
     Answered {
         at: 0,
-        device: device_record::fresh(),
+        cabinet: cabinet_record::fresh(),
     }
 }
 
 // The text of a turn.
 fn turn(
     logs: Logs,
-    d: Device,
+    c: Cabinet,
     buf: &[u8; PART],
     out: &mut [u8; TEXT],
     area: &mut [u8; AREA_SIZE],
@@ -39,13 +39,13 @@ fn turn(
     let turn = logs.turn;
     match turn {
         Turn::Beginning => begin(area),
-        Turn::Part => answers_play::put_lines(out, buf, logs.have, logs.number, d, area),
+        Turn::Part => answers_play::put_lines(out, buf, logs.have, logs.number, c, area),
         Turn::End { short } => {
-            let at = answers_lines::put_end(out, logs.number, short, d, area);
-            Answered { at, device: d }
+            let at = answers_lines::put_end(out, logs.number, short, c, area);
+            Answered { at, cabinet: c }
         }
-        Turn::Unreadable => Answered { at: 0, device: d },
-        Turn::Nothing => Answered { at: 0, device: d },
+        Turn::Unreadable => Answered { at: 0, cabinet: c },
+        Turn::Nothing => Answered { at: 0, cabinet: c },
     }
 }
 
@@ -64,11 +64,11 @@ fn main() {
     let mut logs = program_logs::before(1);
     let mut answered = Answered {
         at: 0,
-        device: device_record::fresh(),
+        cabinet: cabinet_record::fresh(),
     };
     while logs.left > 0 {
         logs = program_logs::next(logs, &mut buf, &mut name);
-        answered = turn(logs, answered.device, &buf, &mut out, &mut area);
+        answered = turn(logs, answered.cabinet, &buf, &mut out, &mut area);
         logs = show(logs, &out, answered.at);
     }
 }

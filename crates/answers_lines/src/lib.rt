@@ -1,7 +1,8 @@
-// The fuller trace's lines of the end state, with every field of the device record and the whole staging area, by which layouts are compared. A call's is
+// The fuller trace's lines of the end state, with every field of each module's device record and the whole staging area, by which layouts are compared. A call's is
 // crates/answers_call_line. They promise how much they write and no text; the lines are compared with an independent program's.
 ghost use Prim.Native.Nat.{_+_, _*_, _≤_};
 ghost use lib.ListN.{length};
+use rules::Cabinet;
 use rules::Device;
 use rules::Phase;
 use rules::Reading;
@@ -29,13 +30,14 @@ fn put_phase(out: &mut [u8], at: usize, phase: Phase) -> usize
     text::put(out, end, b"\n")
 }
 
-// The numbers of a device record, in the order in which `put_end` names them.
-fn numbers(d: Device) -> [u64; 13] {
+// The contexts given out, which both modules share, and the numbers of a device record, in the order in which `put_device` names them.
+fn numbers(contexts: u32, d: Device) -> [u64; 14] {
     let transfer = d.transfer;
     let thresholds = d.thresholds;
     let security = d.security;
     [
-        transfer.contexts as u64,
+        contexts as u64,
+        transfer.current as u64,
         transfer.received as u64,
         transfer.ticks as u64,
         transfer.running,
@@ -138,19 +140,19 @@ fn put_trips(out: &mut [u8], at: usize, trips: u8) -> usize
     text::put_field(out, named, trips as u64, b"\n")
 }
 
-// The lines of a device record.
-fn put_device(out: &mut [u8], at: usize, d: Device) -> usize
-    requires { ⌜ at + 820 ≤ length (now out) ⌝ }
-    ensures { λ r. ⌜ r ≤ at + 820 ⌝ }
+// The lines of a device record, with the contexts given out.
+fn put_device(out: &mut [u8], at: usize, contexts: u32, d: Device) -> usize
+    requires { ⌜ at + 860 ≤ length (now out) ⌝ }
+    ensures { λ r. ⌜ r ≤ at + 860 ⌝ }
 {
     let transfer = d.transfer;
     let phase = transfer.phase;
-    let numbers = numbers(d);
+    let numbers = numbers(contexts, d);
     let at = put_phase(out, at, phase);
     let at = put_numbers(
         out,
         at,
-        b"contexts received ticks running staged enable spare media controller enabled locked frozen attempts ",
+        b"contexts current received ticks running staged enable spare media controller enabled locked frozen attempts ",
         &numbers,
     );
     let at = put_passphrase(out, at, d.security);
@@ -159,12 +161,23 @@ fn put_device(out: &mut [u8], at: usize, d: Device) -> usize
     put_trips(out, at, d.trips)
 }
 
+// The line of a module's number, and its lines.
+fn put_module(out: &mut [u8], at: usize, named: u64, contexts: u32, d: Device) -> usize
+    requires { ⌜ at + 900 ≤ length (now out) ⌝ }
+    ensures { λ r. ⌜ r ≤ at + 900 ⌝ }
+{
+    let at = text::put(out, at, b"module ");
+    let at = text::put_field(out, at, named, b"\n");
+    put_device(out, at, contexts, d)
+}
+
 // What follows the records' lines: the tail's line, and the end state.
-pub fn put_end(out: &mut [u8], number: u64, short: bool, d: Device, area: &[u8]) -> usize
-    requires { ⌜ 2 * length (now area) + 880 ≤ length (now out) ⌝ }
-    ensures { λ r. ⌜ r ≤ 2 * length (now (area .entry)) + 880 ⌝ }
+pub fn put_end(out: &mut [u8], number: u64, short: bool, c: Cabinet, area: &[u8]) -> usize
+    requires { ⌜ 2 * length (now area) + 1860 ≤ length (now out) ⌝ }
+    ensures { λ r. ⌜ r ≤ 2 * length (now (area .entry)) + 1860 ⌝ }
 {
     let at = put_tail(out, 0, number, short);
-    let at = put_device(out, at, d);
+    let at = put_module(out, at, 0, c.contexts, c.first);
+    let at = put_module(out, at, 1, c.contexts, c.second);
     put_bytes(out, at, b"area ", area)
 }

@@ -1,12 +1,12 @@
-// A part of a log on the module, with the fuller trace's line for each record: the answer's bytes in hex. It promises how much it writes and no text; its lines
+// A part of a log on the cabinet, with the fuller trace's line for each record: the answer's bytes in hex. It promises how much it writes and no text; its lines
 // are compared with an independent program's.
 ghost use Prim.Native.Nat.{_+_, _*_, _/_, _^_, _≤_, _<_};
 ghost use mathlib.Core.Path.{_≡_};
 ghost use lib.ListN.{length};
 ghost use Rattle.rules.specs.Log.{recordSize};
-use module::Outcome;
+use cabinet::Outcome;
 use rules::ANSWER_ROOM;
-use rules::Device;
+use rules::Cabinet;
 use rules::Entry;
 use rules::LOG_RECORD;
 use rules::Reading;
@@ -14,15 +14,15 @@ use rules::Reading;
 // The place after what was written, and the record after what was played.
 pub struct Answered {
     pub at: usize,
-    pub device: Device,
+    pub cabinet: Cabinet,
 }
 
-// What a step of the module gives, beside the place after its line.
+// What a step of the cabinet gives, beside the place after its line.
 fn played(at: usize, outcome: Outcome) -> Answered
     ensures { λ r. ⌜ r .at ≡ at ⌝ }
 {
-    let device = outcome.device;
-    Answered { at, device }
+    let cabinet = outcome.cabinet;
+    Answered { at, cabinet }
 }
 
 // The answer buffer comes as zeros.
@@ -30,8 +30,9 @@ fn answer_call(
     out: &mut [u8],
     at: usize,
     number: u64,
-    d: Device,
+    c: Cabinet,
     area: &mut [u8],
+    named: u8,
     revision: u16,
     function: u16,
     request: &[u8],
@@ -40,20 +41,21 @@ fn answer_call(
     ensures { λ r. ⌜ r .at ≤ at + 296 ⌝ }
 {
     let mut answer = [0u8; ANSWER_ROOM];
+    let n = named as u64;
     let v = revision as u64;
     let f = function as u64;
-    let outcome = module::call(d, area, v, f, request, &mut answer);
+    let outcome = cabinet::call(c, area, n, v, f, request, &mut answer);
     let reply = outcome.reply;
     let at = answers_call_line::put_answer(out, at, number, &answer, reply.length);
     played(at, outcome)
 }
 
-// A record is played on the module, and its line is written.
+// A record is played on the cabinet, and its line is written.
 fn answer_record(
     out: &mut [u8],
     at: usize,
     number: u64,
-    d: Device,
+    c: Cabinet,
     area: &mut [u8],
     record: &[u8],
 ) -> Answered
@@ -63,6 +65,7 @@ fn answer_record(
     let entry = log_record::decode(record);
     match entry {
         Entry::Call {
+            named: n,
             host: _,
             revision: v,
             function: f,
@@ -70,19 +73,20 @@ fn answer_record(
         } => {
             let end = 8 + length as usize;
             if record.len() < end {
-                return Answered { at, device: d };
+                return Answered { at, cabinet: c };
             }
-            answer_call(out, at, number, d, area, v, f, &record[8..end])
+            answer_call(out, at, number, c, area, n, v, f, &record[8..end])
         }
         Entry::Tick => {
             let at = text::put_field(out, at, number, b" tick\n");
-            played(at, module::tick(d, area))
+            played(at, cabinet::tick(c, area))
         }
-        Entry::Power => {
+        Entry::Power { named } => {
             let at = text::put_field(out, at, number, b" power\n");
-            played(at, module::power(d, area))
+            played(at, cabinet::power(c, area, named as u64))
         }
         Entry::Health {
+            named,
             spare,
             media,
             controller,
@@ -93,11 +97,11 @@ fn answer_record(
                 controller,
             };
             let at = text::put_field(out, at, number, b" health\n");
-            played(at, module::reading(d, area, new))
+            played(at, cabinet::reading(c, area, named as u64, new))
         }
         Entry::Bad => {
             let at = text::put_field(out, at, number, b" bad\n");
-            Answered { at, device: d }
+            Answered { at, cabinet: c }
         }
     }
 }
@@ -108,7 +112,7 @@ pub fn put_lines(
     buf: &[u8],
     have: usize,
     number: u64,
-    d: Device,
+    c: Cabinet,
     area: &mut [u8],
 ) -> Answered
     requires { ⌜ have ≤ length (now buf) ⌝ }
@@ -117,7 +121,7 @@ pub fn put_lines(
     ensures { λ r. ⌜ r .at ≤ have / recordSize * 296 ⌝ }
 {
     let count = have / LOG_RECORD;
-    let mut answered = Answered { at: 0, device: d };
+    let mut answered = Answered { at: 0, cabinet: c };
     let mut j = 0;
     while j < count {
         let next = number + j as u64;
@@ -127,7 +131,7 @@ pub fn put_lines(
             out,
             answered.at,
             next,
-            answered.device,
+            answered.cabinet,
             area,
             &buf[start..end],
         );

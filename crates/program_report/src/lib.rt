@@ -25,7 +25,7 @@ fn before(counts: Counts) -> Reporting {
         kept: counts,
         going: Going {
             counting,
-            device: device_record::fresh(),
+            cabinet: cabinet_record::fresh(),
         },
         refused: false,
     }

@@ -1,12 +1,13 @@
 // Tries the two places that are proved by walks: a reader walks a log, and a tick changes a record in place. What it must write, in the file stdout, was
-// written by hand from document 01.
+// written by hand from documents 01 and 02.
 ghost use mathlib.Core.Path.{_≡_};
-ghost use Rattle.rules.specs.Record.{moduleOf};
-ghost use Rattle.module_clock.specs.InPlace.{TickedInPlace};
+ghost use Rattle.rules.specs.Record.{wholeOf};
+ghost use Rattle.cabinet_clock.specs.InPlace.{TickedInPlace};
 ghost use Rattle.log_reader.specs.Reader.{stoodAt};
+use cabinet::Outcome;
 use log_reader::Found;
 use log_reader::Stood;
-use module::Outcome;
+use rules::Cabinet;
 use rules::Device;
 use rules::Entry;
 use rules::Phase;
@@ -33,25 +34,32 @@ fn print_number(n: u64, after: &[u8]) {
 fn print_entry(entry: Entry) {
     match entry {
         Entry::Call {
+            named,
             host,
             revision,
             function,
             length,
         } => {
             print(b"call ");
+            print_number(named as u64, b" ");
             print_number(host as u64, b" ");
             print_number(revision as u64, b" ");
             print_number(function as u64, b" ");
             print_number(length as u64, b"\n");
         }
         Entry::Tick => print(b"tick\n"),
-        Entry::Power => print(b"power\n"),
+        Entry::Power { named } => {
+            print(b"power ");
+            print_number(named as u64, b"\n");
+        }
         Entry::Health {
+            named,
             spare,
             media,
             controller,
         } => {
             print(b"health ");
+            print_number(named as u64, b" ");
             print_number(spare as u64, b" ");
             print_number(media as u64, b" ");
             print_number(controller as u64, b"\n");
@@ -93,27 +101,33 @@ fn print_walk(log: &[u8], from: usize, steps: u64) {
     }
 }
 
-// A record that is verifying nothing received, with so many ticks left.
-fn verifying(ticks: u8) -> Device {
-    let d = module::fresh();
+// A cabinet whose module 0 is verifying nothing received, with so many ticks left.
+fn verifying(ticks: u8) -> Cabinet {
+    let c = cabinet::fresh();
+    let d = c.first;
     let t = d.transfer;
     let transfer = Transfer {
         phase: Phase::Verifying,
-        contexts: 1,
+        current: 1,
         ticks,
         ..t
     };
-    Device { transfer, ..d }
+    let first = Device { transfer, ..d };
+    Cabinet {
+        contexts: 1,
+        first,
+        ..c
+    }
 }
 
 // The caller's side of a tick in place: a record of its own is lent, ticked, and read again.
-fn tick_mine(d: Device, area: &[u8]) -> Outcome
-    ensures { λ r. ⌜ TickedInPlace (moduleOf d (now (area .entry))) (r .reply) (r .device) ⌝ }
+fn tick_mine(c: Cabinet, area: &[u8]) -> Outcome
+    ensures { λ r. ⌜ TickedInPlace (wholeOf c (now (area .entry))) (r .reply) (r .cabinet) ⌝ }
 {
-    let mut mine = d;
-    let reply = module_clock::tick_in_place(&mut mine, area);
+    let mut mine = c;
+    let reply = cabinet_clock::tick_in_place(&mut mine, area);
     Outcome {
-        device: mine,
+        cabinet: mine,
         reply,
     }
 }
@@ -141,25 +155,26 @@ fn print_phase(phase: Phase) {
     }
 }
 
-// The record is ticked in place; the verdict, and the phase and the ticks left of the record afterwards.
-fn print_tick(d: Device, area: &[u8]) -> Device {
-    let ticked = tick_mine(d, area);
+// The record is ticked in place; the verdict, and the phase and the ticks left of module 0 afterwards.
+fn print_tick(c: Cabinet, area: &[u8]) -> Cabinet {
+    let ticked = tick_mine(c, area);
     let reply = ticked.reply;
     let verdict = reply.verdict;
-    let device = ticked.device;
-    let transfer = device.transfer;
+    let after = ticked.cabinet;
+    let first = after.first;
+    let transfer = first.transfer;
     let phase = transfer.phase;
     print_verdict(verdict);
     print_phase(phase);
     print_number(transfer.ticks as u64, b"\n");
-    device
+    after
 }
 
-// A log of a Start from host 1 at revision 2, a tick, a record of no known kind, and 10 bytes over.
+// A log of a Start to module 1 from host 1 at revision 2, a tick, a record of no known kind, and 10 bytes over.
 fn walk_log() {
     let mut log = [0u8; 1642];
     log[0] = 1;
-    log[1] = 1;
+    log[1] = 17;
     log[2] = 2;
     log[4] = 13;
     log[RECORD] = 2;
@@ -174,9 +189,9 @@ fn walk_log() {
 // Two ticks left, one, none; an area that is too short; a record that is not possible.
 fn tick_records() {
     let area = [0u8; AREA];
-    let d = print_tick(verifying(2), &area);
-    let e = print_tick(d, &area);
-    print_tick(e, &area);
+    let c = print_tick(verifying(2), &area);
+    let d = print_tick(c, &area);
+    print_tick(d, &area);
     print_tick(verifying(2), &area[..16383]);
     print_tick(verifying(9), &area);
 }

@@ -2,25 +2,25 @@
 -- Assumes nothing.
 use mathlib.Core.{Path.{_≡_, refl, sym, _∙_, ap}, List.List}
 use Prim.Native.Nat.{ℕ, _+_, _≤_}
-use Rattle.rules.{specs.Record.Module, specs.Log.{entryOf, requestIn}, specs.Replay.{entryLine, recordLine}}
+use Rattle.rules.{specs.Record.Whole, specs.Log.{entryOf, requestIn}, specs.Replay.{entryLine, recordLine}}
 use Rattle.rules.{specs.declared.Reply.Reply, specs.declared.Entry.Entry, specs.declared.Entry.the-variants.{Call, Tick, Power, Health, Bad}}
 use Rattle.replay_step.specs.Stepped.{entryReply, recordReply}
 use Rattle.text.{specs.Wrote.{Wrote, WroteWithin, lineRoom}, proofs.Writing.rewrote}
 use Rattle.replay_play.specs.Replayed.{replyLine}
 
-of-entry : (number : ℕ) (m : Module) (entry : Entry) (request : List ℕ) → replyLine number entry (entryReply m entry request) ≡ entryLine number m entry request
-of-entry number m (Call host revision index size) request = refl
-of-entry number m Tick request = refl
-of-entry number m Power request = refl
-of-entry number m (Health spare media controller) request = refl
-of-entry number m Bad request = refl
+of-entry : (number : ℕ) (w : Whole) (entry : Entry) (request : List ℕ) → replyLine number entry (entryReply w entry request) ≡ entryLine number w entry request
+of-entry number w (Call named host revision index size) request = refl
+of-entry number w Tick request = refl
+of-entry number w (Power named) request = refl
+of-entry number w (Health named spare media controller) request = refl
+of-entry number w Bad request = refl
 
-pub of-record : (number : ℕ) (m : Module) (bytes : List ℕ) {entry : Entry} {reply : Reply} → entry ≡ entryOf bytes → reply ≡ recordReply m bytes
-    → replyLine number entry reply ≡ recordLine number m bytes
-of-record number m bytes {entry} {reply} decoded played =
+pub of-record : (number : ℕ) (w : Whole) (bytes : List ℕ) {entry : Entry} {reply : Reply} → entry ≡ entryOf bytes → reply ≡ recordReply w bytes
+    → replyLine number entry reply ≡ recordLine number w bytes
+of-record number w bytes {entry} {reply} decoded played =
     ap (λ (e : Entry). replyLine number e reply) decoded
     ∙ ap (replyLine number (entryOf bytes)) played
-    ∙ of-entry number m (entryOf bytes) (requestIn bytes)
+    ∙ of-entry number w (entryOf bytes) (requestIn bytes)
 
 -- a text that was written is the line of the entry that is told
 pub as-told : (number : ℕ) (reply : Reply) (entry : Entry) {read : Entry} {at next : ℕ} {old new : List ℕ} → read ≡ entry → next ≤ at + lineRoom

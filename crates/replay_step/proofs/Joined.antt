@@ -1,10 +1,10 @@
--- A log that is two parts, the first of which is whole records: where each record stands, and the module after them.
+-- A log that is two parts, the first of which is whole records: where each record stands, and the cabinet after them.
 -- Assumes nothing.
 use mathlib.Core.{Path.{_≡_, refl, sym, _∙_, ap}, List.{List, _++_}}
 use Prim.Native.Nat.{ℕ, zero, suc, _≤_, _<_, _+_, _-_, _*_}
 use native.Mathlib.{Nat.{add-zero, add-suc, add-mul, add-sub-cancel-left}, Omega.arith}
 use lib.{ListN.{length, take, drop, length-drop}, Seq.{drop-at, drop-drop, take-append-le, drop-append-le}}
-use Rattle.rules.{specs.Record.Module, specs.Log.recordAt, specs.Replay.{recordPlayed, moduleAfter}}
+use Rattle.rules.{specs.Record.Whole, specs.Log.recordAt, specs.Replay.{recordPlayed, wholeAfter}}
 
 -- the part of a log that is lent for a record is the record
 pub record-part : (log : List ℕ) (place : ℕ) → take (place * 544 + 544 - place * 544) (drop (place * 544) log) ≡ recordAt log place
@@ -23,17 +23,17 @@ module _ (a b : List ℕ) (k : ℕ) (whole : length a ≡ k * 544) where
       let inside : 544 ≤ length (drop (j * 544) a) = rw length-drop (omega arith) in
       ap (take 544) (drop-append-le (j * 544) a b before) ∙ take-append-le 544 (drop (j * 544) a) b inside
 
-  pub module-near : (m : Module) (j : ℕ) → j ≤ k → moduleAfter m (a ++ b) j ≡ moduleAfter m a j
-  unfolding moduleAfter
-  module-near m zero h = refl
-  module-near m (suc j) h =
-      ap (λ (t : Module). recordPlayed t (recordAt (a ++ b) j)) (module-near m j (omega arith))
-      ∙ ap (recordPlayed (moduleAfter m a j)) (near j (omega arith))
+  pub whole-near : (w : Whole) (j : ℕ) → j ≤ k → wholeAfter w (a ++ b) j ≡ wholeAfter w a j
+  unfolding wholeAfter
+  whole-near w zero h = refl
+  whole-near w (suc j) h =
+      ap (λ (t : Whole). recordPlayed t (recordAt (a ++ b) j)) (whole-near w j (omega arith))
+      ∙ ap (recordPlayed (wholeAfter w a j)) (near j (omega arith))
 
-  pub module-joined : (m : Module) (n : ℕ) → moduleAfter m (a ++ b) (k + n) ≡ moduleAfter (moduleAfter m a k) b n
-  unfolding moduleAfter
-  module-joined m zero = ap (moduleAfter m (a ++ b)) (add-zero k) ∙ module-near m k (omega arith)
-  module-joined m (suc n) =
-      ap (moduleAfter m (a ++ b)) (add-suc k n)
-      ∙ ap (λ (t : Module). recordPlayed t (recordAt (a ++ b) (k + n))) (module-joined m n)
-      ∙ ap (recordPlayed (moduleAfter (moduleAfter m a k) b n)) (far n)
+  pub whole-joined : (w : Whole) (n : ℕ) → wholeAfter w (a ++ b) (k + n) ≡ wholeAfter (wholeAfter w a k) b n
+  unfolding wholeAfter
+  whole-joined w zero = ap (wholeAfter w (a ++ b)) (add-zero k) ∙ whole-near w k (omega arith)
+  whole-joined w (suc n) =
+      ap (wholeAfter w (a ++ b)) (add-suc k n)
+      ∙ ap (λ (t : Whole). recordPlayed t (recordAt (a ++ b) (k + n))) (whole-joined w n)
+      ∙ ap (recordPlayed (wholeAfter (wholeAfter w a k) b n)) (far n)

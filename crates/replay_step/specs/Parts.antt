@@ -11,6 +11,6 @@ logOf [] tail = tail
 logOf (part ∷ parts) tail = part ++ logOf parts tail
 
 -- each part is whole records
-abbrev pub Whole : (parts : List (List ℕ)) → Type 0
-Whole [] = Unit {0}
-Whole (part ∷ parts) = (length part ≡ recordsIn part * recordSize) × Whole parts
+abbrev pub WholeRecords : (parts : List (List ℕ)) → Type 0
+WholeRecords [] = Unit {0}
+WholeRecords (part ∷ parts) = (length part ≡ recordsIn part * recordSize) × WholeRecords parts

@@ -5,7 +5,7 @@ use Prim.Native.Nat.{ℕ, zero, suc, _+_, _-_, _≤_, _<_}
 use native.Mathlib.Omega.{arith}
 use lib.{Dec.leb, ListN.{getD, set}}
 use borrow.Author.Tests.{leb-true, leb-false, le-leb, lt-leb}
-use Rattle.rules.{specs.Tests.{if_then_else_, _≤?_}, specs.Record.Module, specs.Log.{recordAt, recordsIn, shortTail}, specs.Replay.{replayStart, moduleAfter}}
+use Rattle.rules.{specs.Tests.{if_then_else_, _≤?_}, specs.Record.Whole, specs.Log.{recordAt, recordsIn, shortTail}, specs.Replay.{replayStart, wholeAfter}}
 use Rattle.rules.specs.Report.{Report, Counted, answered, masked, ticked, powered, measured, bad, recordCounted, raisedAt, raised, raisedShort, reportAfter, withTail, withLog, largestCount, rowFits, gridFits, countsFit, fits, fedIf, feed}
 use Rattle.rules.specs.declared.Counts.{Counts}
 use Rattle.report_tally.specs.Tally.{Tally, countOf, talliedIf, tallied, talliedTail}
@@ -142,12 +142,12 @@ module _ (up : Report → Report) (no-room : Report → Bool) (law : (q : Report
       go true e = full-already t q e x
       go false e = going-on t q e x (no-room q) refl
 
-exact-after : (r : Report) (m : Module) (log : List ℕ) (j : ℕ) → fits r ≡ true → Exact (tallyAfter (begun r) m log j) (reportAfter r m log j)
+exact-after : (r : Report) (w : Whole) (log : List ℕ) (j : ℕ) → fits r ≡ true → Exact (tallyAfter (begun r) w log j) (reportAfter r w log j)
 unfolding tallyAfter reportAfter
-exact-after r m log zero f = record { full-is = sym (ap not f); report-is = λ e. refl }
-exact-after r m log (suc j) f =
-    let x : Counted = recordCounted (moduleAfter m log j) (recordAt log j) in
-    one-more (raised x) (λ q. largestCount ≤? countOf x q) (λ q. fits-raised q x) (tallyAfter (begun r) m log j) (reportAfter r m log j) (exact-after r m log j f)
+exact-after r w log zero f = record { full-is = sym (ap not f); report-is = λ e. refl }
+exact-after r w log (suc j) f =
+    let x : Counted = recordCounted (wholeAfter w log j) (recordAt log j) in
+    one-more (raised x) (λ q. largestCount ≤? countOf x q) (λ q. fits-raised q x) (tallyAfter (begun r) w log j) (reportAfter r w log j) (exact-after r w log j f)
 
 pub fed-by-tally : FedByTally
 unfolding feed

@@ -1,29 +1,29 @@
--- Document 02, T-01: what a record, and a part of a log, comes to in a report: the tally after it, and the module.
+-- Document 02, T-01: what a record, and a part of a log, comes to in a report: the tally after it, and the cabinet.
 -- Assumes nothing.
 use mathlib.Core.{Path._≡_, Bool.{true, false, not}, List.List}
 use Prim.Native.Nat.{ℕ, zero, suc}
-use Rattle.rules.specs.Record.{Module, moduleOf}
+use Rattle.rules.specs.Record.{Whole, wholeOf}
 use Rattle.rules.specs.Log.{recordsIn, recordAt, shortTail}
-use Rattle.rules.specs.Replay.{replayStart, recordPlayed, moduleAfter}
+use Rattle.rules.specs.Replay.{replayStart, recordPlayed, wholeAfter}
 use Rattle.rules.specs.Report.{Report, recordCounted, Fed, fedIf, feed, fits}
 use Rattle.report_tally.specs.Tally.{Tally, tallied, talliedTail, Tallies}
 use Rattle.report_log.specs.declared.Going.{Going}
 
--- the tally after the first j records of a log, which is replayed from the module m
-unfoldable pub tallyAfter : Tally → Module → (log : List ℕ) (j : ℕ) → Tally
-tallyAfter t m log zero = t
-tallyAfter t m log (suc j) = tallied (recordCounted (moduleAfter m log j) (recordAt log j)) (tallyAfter t m log j)
+-- the tally after the first j records of a log, which is replayed from the cabinet w
+unfoldable pub tallyAfter : Tally → Whole → (log : List ℕ) (j : ℕ) → Tally
+tallyAfter t w log zero = t
+tallyAfter t w log (suc j) = tallied (recordCounted (wholeAfter w log j) (recordAt log j)) (tallyAfter t w log j)
 
--- grid, counts and flag are those of the tally; the device record and the area are the module
-pub record GoesOn (t : Tally) (m : Module) (grid : List (List ℕ)) (area : List ℕ) (going : Going) : Type 0 where
+-- grid, counts and flag are those of the tally; the record and the area are the cabinet
+pub record GoesOn (t : Tally) (w : Whole) (grid : List (List ℕ)) (area : List ℕ) (going : Going) : Type 0 where
   pub tally-is : Tallies t grid (going .counting)
-  pub module-is : moduleOf (going .device) area ≡ m
+  pub whole-is : wholeOf (going .cabinet) area ≡ w
 
-abbrev pub RecordTallied : Tally → Module → (bytes : List ℕ) (grid : List (List ℕ)) (area : List ℕ) → Going → Type 0
-RecordTallied t m bytes grid area going = GoesOn (tallied (recordCounted m bytes) t) (recordPlayed m bytes) grid area going
+abbrev pub RecordTallied : Tally → Whole → (bytes : List ℕ) (grid : List (List ℕ)) (area : List ℕ) → Going → Type 0
+RecordTallied t w bytes grid area going = GoesOn (tallied (recordCounted w bytes) t) (recordPlayed w bytes) grid area going
 
-abbrev pub PartTallied : Tally → Module → (part : List ℕ) (grid : List (List ℕ)) (area : List ℕ) → Going → Type 0
-PartTallied t m part grid area going = GoesOn (tallyAfter t m part (recordsIn part)) (moduleAfter m part (recordsIn part)) grid area going
+abbrev pub PartTallied : Tally → Whole → (part : List ℕ) (grid : List (List ℕ)) (area : List ℕ) → Going → Type 0
+PartTallied t w part grid area going = GoesOn (tallyAfter t w part (recordsIn part)) (wholeAfter w part (recordsIn part)) grid area going
 
 -- before the first record of a log
 abbrev pub begun : Report → Tally

@@ -76,13 +76,13 @@ pub as-told : (t : Tally) (reply : Reply) (entry : Entry) {read : Entry} {new : 
 as-told t reply entry {new = new} {r} told w = subst (λ (e : Entry). Tallies (tallied (countedBy e reply) t) new r) (sym told) w
 
 -- a call, by whether its function is 0
-module _ (grid : List (List ℕ)) (c : Counting) (reply : Reply) (host revision index size : ℕ) {read : Entry} {r : Counting}
-    (going : c .full ≡ false) (told : read ≡ Call host revision index size)
+module _ (grid : List (List ℕ)) (c : Counting) (reply : Reply) (named host revision index size : ℕ) {read : Entry} {r : Counting}
+    (going : c .full ≡ false) (told : read ≡ Call named host revision index size)
   where
     by-index : {new : List (List ℕ)} (b : Bool) → (index =? 0) ≡ b
         → Tallies (tallied (if b then masked else answered host (printedStatus (reply .verdict))) (was grid c)) new r → Tallies (tallied (countedBy read reply) (was grid c)) new r
     by-index {new} b e w =
-        as-told (was grid c) reply (Call host revision index size) told
+        as-told (was grid c) reply (Call named host revision index size) told
         (subst (λ (z : Bool). Tallies (tallied (if z then masked else answered host (printedStatus (reply .verdict))) (was grid c)) new r) (sym e) w)
 
     pub a-mask : (index =? 0) ≡ true → r ≡ countedOrFull (c .counts .masks) (raisedCounts masked (c .counts)) (c .counts) → Tallies (tallied (countedBy read reply) (was grid c)) grid r
@@ -95,5 +95,5 @@ module _ (grid : List (List ℕ)) (c : Counting) (reply : Reply) (host revision 
         (subst (λ (s : ℕ). Tallies (tallied (answered host s) (was grid c)) new r) status-is (in-grid grid c (answered host _) going w))
 
 -- the cell of a call that is told
-pub has-cell : (reply : Reply) (host revision index size : ℕ) {read : Entry} → read ≡ Call host revision index size → HasCell read reply → HasCell (Call host revision index size) reply
-has-cell reply host revision index size told h = subst (λ (e : Entry). HasCell e reply) told h
+pub has-cell : (reply : Reply) (named host revision index size : ℕ) {read : Entry} → read ≡ Call named host revision index size → HasCell read reply → HasCell (Call named host revision index size) reply
+has-cell reply named host revision index size told h = subst (λ (e : Entry). HasCell e reply) told h

@@ -41,18 +41,18 @@ talliedTail short t = talliedIf (t .full || (if short then largestCount ≤? t .
 
 -- what an entry counts as, by what its play replied
 abbrev pub countedBy : Entry → Reply → Counted
-countedBy (Call host revision index size) reply = if index =? 0 then masked else answered host (printedStatus (reply .verdict))
+countedBy (Call named host revision index size) reply = if index =? 0 then masked else answered host (printedStatus (reply .verdict))
 countedBy Tick reply = ticked
-countedBy Power reply = powered
-countedBy (Health spare media controller) reply = measured
+countedBy (Power named) reply = powered
+countedBy (Health named spare media controller) reply = measured
 countedBy Bad reply = bad
 
 -- the cell is there: hosts 1 to 4 and statuses 0 to 11
 abbrev pub HasCell : Entry → Reply → Type 0
-HasCell (Call host revision index size) reply = (1 ≤ host) × (host ≤ 4) × (printedStatus (reply .verdict) ≤ 11)
+HasCell (Call named host revision index size) reply = (1 ≤ host) × (host ≤ 4) × (printedStatus (reply .verdict) ≤ 11)
 HasCell Tick reply = Unit {0}
-HasCell Power reply = Unit {0}
-HasCell (Health spare media controller) reply = Unit {0}
+HasCell (Power named) reply = Unit {0}
+HasCell (Health named spare media controller) reply = Unit {0}
 HasCell Bad reply = Unit {0}
 
 -- the counts beside the grid: the new ones, where the count that is raised had room

@@ -129,6 +129,7 @@ pub fn count(grid: &mut [[u32; 12]; 4], counting: Counting, entry: Entry, reply:
     let counts = counting.counts;
     match entry {
         Entry::Call {
+            named: _,
             host,
             revision: _,
             function,
@@ -143,8 +144,9 @@ pub fn count(grid: &mut [[u32; 12]; 4], counting: Counting, entry: Entry, reply:
             count_answer(grid, counts, host, status)
         }
         Entry::Tick => count_tick(counts),
-        Entry::Power => count_power(counts),
+        Entry::Power { named: _ } => count_power(counts),
         Entry::Health {
+            named: _,
             spare: _,
             media: _,
             controller: _,

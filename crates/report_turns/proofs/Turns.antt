@@ -2,7 +2,7 @@
 -- Assumes nothing.
 use mathlib.Core.{Path.{_≡_, refl, sym, ap, subst}, Bool.{Bool, false}, List.List}
 use Prim.Native.Nat.{ℕ}
-use Rattle.rules.{specs.Record.{Module, moduleOf}, specs.Report.Report}
+use Rattle.rules.{specs.Record.{Whole, wholeOf}, specs.Report.Report}
 use Rattle.program_logs.specs.declared.{Turn.Turn, Turn.the-variants.{Part, End}}
 use Rattle.report_tally.specs.Tally.{Tally, tallyOf}
 use Rattle.report_log.specs.{declared.Going.Going, Parts.PartTallied}
@@ -19,14 +19,14 @@ module _ (kept grid : List (List ℕ)) (area : List ℕ) (was : Reporting) where
 
   -- a part was counted
   pub a-part : (part : List ℕ) {grid′ : List (List ℕ)} {area′ : List ℕ} {going : Going}
-      → PartTallied (tallyOf grid (was .going .counting .counts) (was .going .counting .full)) (moduleOf (was .going .device) area) part grid′ area′ going
+      → PartTallied (tallyOf grid (was .going .counting .counts) (was .going .counting .full)) (wholeOf (was .going .cabinet) area) part grid′ area′ going
       → Leaves (turned Part before part) (refuses Part before) kept grid′ area′ (record { kept = was .kept; going = going; refused = false })
   a-part part p =
       record {
         state-is = λ i. record {
           kept = record { grid = kept; counts = was .kept };
           tally = record { report = record { grid = p .tally-is .grid-is i; counts = p .tally-is .counts-are i }; full = p .tally-is .full-is i };
-          module-now = p .module-is i;
+          whole-now = p .whole-is i;
         };
         refused-is = refl;
       }
@@ -39,7 +39,7 @@ module _ (kept grid : List (List ℕ)) (area : List ℕ) (was : Reporting) where
         state-is = λ i. record {
           kept = e .kept-is i;
           tally = tallyOf grid (e .going-is i .counting .counts) (e .going-is i .counting .full);
-          module-now = moduleOf (e .going-is i .device) area;
+          whole-now = wholeOf (e .going-is i .cabinet) area;
         };
         refused-is = e .refused-is;
       }

@@ -2,42 +2,42 @@
 -- Assumes nothing.
 use mathlib.Core.{Path._≡_, Bool.{Bool, true, false, not}, List.{List, [], _∷_}}
 use Prim.Native.Nat.{ℕ}
-use Rattle.rules.specs.Record.{Module, moduleOf}
+use Rattle.rules.specs.Record.{Whole, wholeOf}
 use Rattle.rules.specs.Log.{recordsIn, shortTail}
-use Rattle.rules.specs.Replay.{replayStart, moduleAfter}
+use Rattle.rules.specs.Replay.{replayStart, wholeAfter}
 use Rattle.rules.specs.Report.{Report, fits, feed, fedNext}
 use Rattle.rules.specs.declared.Counts.{Counts}
 use Rattle.program_logs.specs.declared.{Turn.Turn, Turn.the-variants.{Beginning, Part, End, Unreadable, Nothing}}
-use Rattle.replay_step.specs.Parts.{logOf, Whole}
+use Rattle.replay_step.specs.Parts.{logOf, WholeRecords}
 use Rattle.report_tally.specs.Tally.{Tally, tallyOf, talliedTail}
 use Rattle.report_log.specs.declared.Going.{Going}
 use Rattle.report_log.specs.Parts.{tallyAfter, begun, fedBy}
 use Rattle.report_turns.specs.declared.Reporting.{Reporting}
 
--- the report that is kept; the tally of the log, and the module that its records have led to
+-- the report that is kept; the tally of the log, and the cabinet that its records have led to
 pub record State : Type 0 where
   pub kept : Report
   pub tally : Tally
-  pub module-now : Module
+  pub whole-now : Whole
 
 abbrev pub stateOf : (kept grid : List (List ℕ)) (area : List ℕ) → Reporting → State
 stateOf kept grid area r =
     record {
       kept = record { grid = kept; counts = r .kept };
       tally = tallyOf grid (r .going .counting .counts) (r .going .counting .full);
-      module-now = moduleOf (r .going .device) area;
+      whole-now = wholeOf (r .going .cabinet) area;
     }
 
 -- a log begins with what is kept, "replayed from a fresh module"; each part goes on where the one before it left; at the end the report with the log is kept, or
 -- the one that was, if there was a log too many; and so where the log cannot be read to its end
 abbrev pub begins : Report → State
-begins r = record { kept = r; tally = begun r; module-now = replayStart }
+begins r = record { kept = r; tally = begun r; whole-now = replayStart }
 
 abbrev pub turned : Turn → State → (part : List ℕ) → State
 turned Beginning s part = begins (s .kept)
 turned Part s part =
-    record { kept = s .kept; tally = tallyAfter (s .tally) (s .module-now) part (recordsIn part); module-now = moduleAfter (s .module-now) part (recordsIn part) }
-turned (End short) s part = record { kept = fedBy (talliedTail short (s .tally)) (s .kept) .report; tally = s .tally; module-now = s .module-now }
+    record { kept = s .kept; tally = tallyAfter (s .tally) (s .whole-now) part (recordsIn part); whole-now = wholeAfter (s .whole-now) part (recordsIn part) }
+turned (End short) s part = record { kept = fedBy (talliedTail short (s .tally)) (s .kept) .report; tally = s .tally; whole-now = s .whole-now }
 turned Unreadable s part = s
 turned Nothing s part = s
 
@@ -83,7 +83,7 @@ logLeft s parts = turned Unreadable (partsTurned (turned Beginning s []) parts) 
 -- What is kept after the turns of a log is what feeding the log comes to, where every part but the last is whole records; the log is refused exactly where
 -- feeding does not take it; what is kept fits again; "a log that stops being readable in its middle counts nothing".
 pub record ReportOfTurns : Type 0 where
-  pub fed : (s : State) (parts : List (List ℕ)) (last : List ℕ) → Whole parts → fits (s .kept) ≡ true → logTurned s parts last .kept ≡ fedNext (s .kept) (logOf parts last)
-  pub refused : (s : State) (parts : List (List ℕ)) (last : List ℕ) → Whole parts → fits (s .kept) ≡ true → logRefused s parts last ≡ not (feed (s .kept) (logOf parts last) .taken)
+  pub fed : (s : State) (parts : List (List ℕ)) (last : List ℕ) → WholeRecords parts → fits (s .kept) ≡ true → logTurned s parts last .kept ≡ fedNext (s .kept) (logOf parts last)
+  pub refused : (s : State) (parts : List (List ℕ)) (last : List ℕ) → WholeRecords parts → fits (s .kept) ≡ true → logRefused s parts last ≡ not (feed (s .kept) (logOf parts last) .taken)
   pub fits-again : (r : Report) (log : List ℕ) → fits r ≡ true → fits (fedNext r log) ≡ true
   pub unreadable : (s : State) (parts : List (List ℕ)) → logLeft s parts .kept ≡ s .kept

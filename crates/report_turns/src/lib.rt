@@ -5,7 +5,7 @@ ghost use mathlib.Core.Path.{_≡_};
 ghost use mathlib.Core.Bool.{false};
 ghost use lib.ListN.{length, take};
 ghost use Rattle.rules.specs.Numbers.{answerRoom};
-ghost use Rattle.rules.specs.Record.{moduleOf};
+ghost use Rattle.rules.specs.Record.{wholeOf};
 ghost use Rattle.program_logs.specs.Turns.{Standing, partSize};
 ghost use Rattle.report_tally.specs.Tally.{tallyOf};
 ghost use Rattle.report_log.specs.Parts.{PartTallied};
@@ -27,7 +27,7 @@ pub struct Reporting {
     pub refused: bool,
 }
 
-// A log begins with the report that is kept, a fresh module and an area of zeros.
+// A log begins with the report that is kept, two fresh modules and an area of zeros.
 fn begin(
     kept: &[[u32; 12]; 4],
     grid: &mut [[u32; 12]; 4],
@@ -46,7 +46,7 @@ fn begin(
         kept: counts,
         going: Going {
             counting,
-            device: device_record::fresh(),
+            cabinet: cabinet_record::fresh(),
         },
         refused: false,
     }
@@ -63,11 +63,11 @@ fn count(
 ) -> Going
     requires { ⌜ have ≤ length (now buf) ⌝ }
     requires { ⌜ length (now answer) ≡ answerRoom ⌝ }
-    ensures { λ r. ⌜ PartTallied (tallyOf (now (grid .entry)) (going .counting .counts) (going .counting .full)) (moduleOf (going .device) (now (area .entry))) (take have (now (buf .entry))) (now (grid .exit)) (now (area .exit)) r ⌝ }
+    ensures { λ r. ⌜ PartTallied (tallyOf (now (grid .entry)) (going .counting .counts) (going .counting .full)) (wholeOf (going .cabinet) (now (area .entry))) (take have (now (buf .entry))) (now (grid .exit)) (now (area .exit)) r ⌝ }
 {
     let counting = going.counting;
-    let device = going.device;
-    report_log::count_part(grid, counting, device, area, answer, &buf[0..have])
+    let cabinet = going.cabinet;
+    report_log::count_part(grid, counting, cabinet, area, answer, &buf[0..have])
 }
 
 // At its end a log is taken, or refused.

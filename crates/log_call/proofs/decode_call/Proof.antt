@@ -8,8 +8,8 @@ not-good c = simp (← c .before .good-call .ensures, not-true (c .before .good-
 
 fields : tie.Need-returns-2
 fields c =
-    let k = c .before .before .before in
-    simp (← k .before .before .good-call .ensures, not-false (k .before .before .good-call .result) (k .before .if1 .left), k .byte .ensures, c .before .before .half .ensures, c .before .half2 .ensures, c .half3 .ensures)
+    let k = c .before .before .before .before in
+    simp (← k .before .before .good-call .ensures, not-false (k .before .before .good-call .result) (k .before .if1 .left), k .named-in .ensures, c .before .before .before .host-in .ensures, c .before .before .half .ensures, c .before .half2 .ensures, c .half3 .ensures)
 
 pub decode-call-spec : {M : Type 1} → statement M
 decode-call-spec =
@@ -17,6 +17,7 @@ decode-call-spec =
     (tie.spec
     (λ c κs. search needs)
     not-good
+    (λ c κs. search needs)
     (λ c κs. search needs)
     (λ c κs. search needs)
     (λ c κs. search needs)

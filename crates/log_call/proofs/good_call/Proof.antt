@@ -8,25 +8,30 @@ use Rattle.log_call.proofs.good_call.Tie as tie
 
 no-host : tie.Need-returns
 no-host c =
-    let host = c .before .byte in
-    simp (← host .ensures, not-true ((1 ≤? host .result) && (host .result ≤? 4)) (c .if1 .taken))
+    let named = c .before .named-in in
+    let host = c .before .before .host-in in
+    simp (← host .ensures, ← named .ensures, not-true ((1 ≤? host .result) && (host .result ≤? 4) && (named .result ≤? 1)) (c .if1 .taken))
 
 too-long : tie.Need-returns-2
 too-long c =
-    let host = c .before .before .before .byte in
-    simp (← host .ensures, ← c .before .half .ensures, not-false ((1 ≤? host .result) && (host .result ≤? 4)) (c .before .before .if1 .left), lt-leb _ 536 (c .if2 .taken))
+    let k = c .before .before in
+    let named = k .before .named-in in
+    let host = k .before .before .host-in in
+    simp (← host .ensures, ← named .ensures, ← c .before .half .ensures, not-false ((1 ≤? host .result) && (host .result ≤? 4) && (named .result ≤? 1)) (k .if1 .left), lt-leb _ 536 (c .if2 .taken))
 
 padding-decides : tie.Need-returns-3
 padding-decides c =
-    let k = c .before .before .before in
-    let host = k .before .before .byte in
+    let k = c .before .before .before .before in
+    let named = k .before .named-in in
+    let host = k .before .before .host-in in
     let bytes = k .before .before .before .before .args .bytes .now in
-    simp (← host .ensures, ← k .half .ensures, not-false ((1 ≤? host .result) && (host .result ≤? 4)) (k .before .if1 .left), le-leb _ 536 (c .before .before .if2 .left), c .all-zero .ensures ∙ ap zeros? (rest _ bytes))
+    simp (← host .ensures, ← named .ensures, ← c .before .before .before .half .ensures, not-false ((1 ≤? host .result) && (host .result ≤? 4) && (named .result ≤? 1)) (k .if1 .left), le-leb _ 536 (c .before .before .if2 .left), c .all-zero .ensures ∙ ap zeros? (rest _ bytes))
 
 pub good-call-spec : {M : Type 1} → statement M
 good-call-spec =
     tie.close
     (tie.spec
+    (λ c κs. search needs)
     (λ c κs. search needs)
     no-host
     (λ c κs. search needs)

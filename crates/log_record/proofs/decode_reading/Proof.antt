@@ -8,8 +8,8 @@ not-good c = simp (← c .before .good-reading .ensures, not-true (c .before .go
 
 fields : tie.Need-returns-2
 fields c =
-    let k = c .before .before in
-    simp (← k .before .before .good-reading .ensures, not-false (k .before .before .good-reading .result) (k .before .if1 .left), k .byte .ensures, c .before .half .ensures, c .half2 .ensures)
+    let k = c .before .before .before in
+    simp (← k .before .before .good-reading .ensures, not-false (k .before .before .good-reading .result) (k .before .if1 .left), k .named-in .ensures, c .before .before .byte .ensures, c .before .half .ensures, c .half2 .ensures)
 
 pub decode-reading-spec : {M : Type 1} → statement M
 decode-reading-spec =
@@ -17,6 +17,7 @@ decode-reading-spec =
     (tie.spec
     (λ c κs. search needs)
     not-good
+    (λ c κs. search needs)
     (λ c κs. search needs)
     (λ c κs. search needs)
     (λ c κs. search needs)

@@ -1,5 +1,5 @@
 -- `program_walks::tick_mine` meets its contract: a walk of its MIR, by hand. The record is copied to a local, the local is lent for a lifetime that is made for the
--- call, and `module_clock::tick_in_place` is called on it; the lifetime is ended, the local comes back with the record that the callee's contract says, and it
+-- call, and `cabinet_clock::tick_in_place` is called on it; the lifetime is ended, the local comes back with the record that the callee's contract says, and it
 -- is handed on beside the reply. All that is known of the callee is its contract.
 -- The area is a `&[u8]`, so what it owns is had twice: once for the callee, and once for the exit.
 -- Assumes nothing.
@@ -24,20 +24,20 @@ use denote.{Slice.{sliceVal, ShrSlice, slice-vals, shr-slice-tells, shr-slice-la
 use denote.{Triple.Statement.{Contract, Triple}, Triple.Call.calls-at, Triple.Entry.onEntry, Triple.Spec.{Meets, tripleOf}, Triple.Table.{entered, cited}}
 use denote.{Triple.Walked.{says, Stays, stay-none, stay-none-slice, walkOf, AllGo, goes-none, goes-none-slice, Walks, ends-at, walked, walk-meets}, Exit.yes}
 use denote.Triple.Clauses.{ensured, lasts}
-use Rattle.rules.{specs.declared.Device.Device, specs.declared.Reply.Reply, specs.Record.moduleOf}
-use Rattle.module.specs.declared.Outcome.{Outcome}
-use Rattle.module_clock.specs.InPlace.{TickedInPlace}
+use Rattle.rules.{specs.declared.Cabinet.Cabinet, specs.declared.Reply.Reply, specs.Record.wholeOf}
+use Rattle.cabinet.specs.declared.Outcome.{Outcome}
+use Rattle.cabinet_clock.specs.InPlace.{TickedInPlace}
 use denote.Struct.Laws as LL
-use Rattle.rules.proofs.Device as T
-use Rattle.rules.proofs.Device.Laws as T′
+use Rattle.rules.proofs.Cabinet as T
+use Rattle.rules.proofs.Cabinet.Laws as T′
 use Rattle.rules.proofs.Reply as E
 use Rattle.rules.proofs.Reply.Laws as E′
-use Rattle.module.proofs.Outcome as R
-use Rattle.module.proofs.Outcome.Laws as R′
-use Rattle.module_clock.proofs.tick_in_place as callee
-use Rattle.module_clock.proofs.tick_in_place.Symbol as callee-def
-use Rattle.module_clock.proofs.tick_in_place.Symbol.{name as #module-clock·tick-in-place}
-use Rattle.module_clock.proofs.tick_in_place.Met as callee-thm
+use Rattle.cabinet.proofs.Outcome as R
+use Rattle.cabinet.proofs.Outcome.Laws as R′
+use Rattle.cabinet_clock.proofs.tick_in_place as callee
+use Rattle.cabinet_clock.proofs.tick_in_place.Symbol as callee-def
+use Rattle.cabinet_clock.proofs.tick_in_place.Symbol.{name as #cabinet-clock·tick-in-place}
+use Rattle.cabinet_clock.proofs.tick_in_place.Met as callee-thm
 use Rattle.program_walks.proofs.tick_mine.Key.{name as #program-walks·tick-mine}
 use Rattle.program_walks.proofs.tick_mine as mine
 use Rattle.program_walks.proofs.tick_mine.Statement as stated
@@ -46,10 +46,10 @@ use Rattle.program_walks.proofs.tick_mine.Code as code
 abbrev stayed : Stays (mine.ended .signature .params) (mine.ended .kept)
 stayed = (stay-none (λ _. T.the-row) yes, (stay-none-slice (0 ∷ []) tt (plain (λ _. u8)) yes, tt))
 
-abbrev vals : Device → List Val
+abbrev vals : Cabinet → List Val
 vals = LL.vals T.the-type T′.the-laws
 
-abbrev val : Device → Val
+abbrev val : Cabinet → Val
 val = LL.val T.the-type T′.the-laws
 
 module _ {M : Type 1} (𝓤 : URA M) (H : Heap 𝓤) (A : Atoms 𝓤) (at-mem : Memory → SProp 𝓤) (run : Routine → Fun 𝓤) where
@@ -58,7 +58,7 @@ module _ {M : Type 1} (𝓤 : URA M) (H : Heap 𝓤) (A : Atoms 𝓤) (at-mem : 
   InPlace = tripleOf 𝓤 H A callee.signature (callee.spec 𝓤 H A at-mem run)
 
 -- a record in a local is a record in memory that can be lent, and back
-module _ {M : Type 1} (𝓤 : URA M) (H : Heap 𝓤) (A : Atoms 𝓤) (W : Given 𝓤 H A) (h : Device) (b : ℕ) where
+module _ {M : Type 1} (𝓤 : URA M) (H : Heap 𝓤) (A : Atoms 𝓤) (W : Given 𝓤 H A) (h : Cabinet) (b : ℕ) where
   into : Is T.the-row h (vals h) → ent 𝓤 (sem 𝓤 H A (fat fullShare T′.mir b 0 (val h))) (sem 𝓤 H A (mem T.the-row .lies h b 0))
   unfolding partOf
   into is =
@@ -72,7 +72,7 @@ module _ {M : Type 1} (𝓤 : URA M) (H : Heap 𝓤) (A : Atoms 𝓤) (W : Given
       qed W (‵ (mem T.the-row .lies h b 0) ∷ []) ∵ fpick ! (λ vs. fsplit ! $ spelt ! T.the-row (Is T.the-row) (shows 𝓤 H A T.the-row) vals (LL.tells T.the-type T′.the-laws) fullShare h vs b 0 $
       use1 W (‵ (fat fullShare T′.mir b 0 (val h))) (W .laws .raw-at fullShare T′.mir b 0 (val h)) $ frame ! $ done !)
 
-module _ {M : Type 1} (𝓤 : URA M) (H : Heap 𝓤) (A : Atoms 𝓤) (W : Given 𝓤 H A) (at-mem : Memory → SProp 𝓤) (run : Routine → Fun 𝓤) (κ : Lft) (q : Share) (h : Device) (s : RefT (List ℕ)) where
+module _ {M : Type 1} (𝓤 : URA M) (H : Heap 𝓤) (A : Atoms 𝓤) (W : Given 𝓤 H A) (at-mem : Memory → SProp 𝓤) (run : Routine → Fun 𝓤) (κ : Lft) (q : Share) (h : Cabinet) (s : RefT (List ℕ)) where
   -- the machine value that the area has
   abbrev v : Val
   v = sliceVal (s .ptr) (length (s .now))
@@ -87,7 +87,7 @@ module _ {M : Type 1} (𝓤 : URA M) (H : Heap 𝓤) (A : Atoms 𝓤) (W : Given
   Own = ShrSlice (named 0) κ u8 .own s (v ∷ [])
 
   -- the reference to the local at b, under the name δ
-  abbrev x : ℕ → GName → RefT Device
+  abbrev x : ℕ → GName → RefT Cabinet
   x b δ = record { ptr = (b, 0); name = δ; now = h }
 
   -- what the callee's triple binds outside: the local at b lent for the lifetime ν, under the name δ
@@ -95,7 +95,7 @@ module _ {M : Type 1} (𝓤 : URA M) (H : Heap 𝓤) (A : Atoms 𝓤) (W : Given
   κs ν = (ν ∷ [], (κ, tt))
 
   abbrev Arg : Type 0
-  Arg = RefT Device × (RefT (List ℕ) × Unit {0})
+  Arg = RefT Cabinet × (RefT (List ℕ) × Unit {0})
 
   abbrev arg : ℕ → GName → Arg
   arg b δ = (x b δ, (s, tt))
@@ -110,8 +110,8 @@ module _ {M : Type 1} (𝓤 : URA M) (H : Heap 𝓤) (A : Atoms 𝓤) (W : Given
       nothing ! $ move ! (4 ∷ 0 ∷ []) $ fjoin ! $ move ! (2 ∷ 0 ∷ []) $ fjoin ! $ move ! (1 ∷ 2 ∷ []) $ join ! $ join ! $ frame ! $ done !
 
   -- what the callee promises of its reply and of the record behind the reference
-  abbrev Said : Reply → Device → Type 0
-  Said r w = TickedInPlace (moduleOf h (now s)) r w
+  abbrev Said : Reply → Cabinet → Type 0
+  Said r w = TickedInPlace (wholeOf h (now s)) r w
 
   abbrev replyVal : Reply → Val
   replyVal r = LL.val E.the-type E′.the-laws r
@@ -119,13 +119,13 @@ module _ {M : Type 1} (𝓤 : URA M) (H : Heap 𝓤) (A : Atoms 𝓤) (W : Given
   told : (r : Reply) (u : Val) → Is E.the-row r (u ∷ []) → Is E.the-row r (replyVal r ∷ [])
   told r u is = subst (Is E.the-row r) (LL.tells E.the-type E′.the-laws r (u ∷ []) is) is
 
-  abbrev out : Reply → Device → Outcome
-  out r w = record { device = w; reply = r }
+  abbrev out : Reply → Cabinet → Outcome
+  out r w = record { cabinet = w; reply = r }
 
-  abbrev outVal : Reply → Device → Val
+  abbrev outVal : Reply → Cabinet → Val
   outVal r w = LL.val R.the-type R′.the-laws (out r w)
 
-  module _ (r : Reply) (w : Device) (isr : Is E.the-row r (replyVal r ∷ [])) (isw : Is T.the-row w (vals w)) where
+  module _ (r : Reply) (w : Cabinet) (isr : Is E.the-row r (replyVal r ∷ [])) (isw : Is T.the-row w (vals w)) where
     abbrev is-out : Is R.the-row (out r w) (outVal r w ∷ [])
     is-out = LL.owes R.the-type R′.the-laws (out r w) (isw, (isr, tt))
 
@@ -136,7 +136,7 @@ module _ {M : Type 1} (𝓤 : URA M) (H : Heap 𝓤) (A : Atoms 𝓤) (W : Given
         owned ! R.the-row (Is R.the-row) (LL.makes R.the-type R′.the-plain 𝓤 H A) (out r w) _ is-out $
         nothing ! $ move ! (2 ∷ 0 ∷ []) $ fjoin ! $ owned ! T.the-row (Is T.the-row) (LL.makes T.the-type T′.the-plain 𝓤 H A) h _ is $ fjoin ! $ frame ! $ done !
 
-  module _ (C : Calls 𝓤 H) (Λ : Loops 𝓤 H) (fm : FmC 𝓤 H (W .laws) C) (known : Triple 𝓤 (C #module-clock·tick-in-place) (InPlace 𝓤 H A at-mem run)) where
+  module _ (C : Calls 𝓤 H) (Λ : Loops 𝓤 H) (fm : FmC 𝓤 H (W .laws) C) (known : Triple 𝓤 (C #cabinet-clock·tick-in-place) (InPlace 𝓤 H A at-mem run)) where
     walk : Is T.the-row h (vals h) → Is (ShrSlice (named 0) κ u8) s (v ∷ []) → ent 𝓤 (onEntry 𝓤 H A mine.signature (κ, tt) (q, tt) (h, (s, tt)) at) (WpFn 𝓤 H C Λ code.function (val h ∷ v ∷ []) Post)
     walk ish p =
         qed W ((‵ (flft κ q) ⊛ ‵ ftrue) ∷ ‵ (owns (T.the-row ∷ ShrSlice (named 0) κ u8 ∷ []) (h, (s, tt)) at) ∷ []) ∵ move ! (1 ∷ []) $ fsplit ! $ drop ! $ fsplit ! $ move ! (1 ∷ []) $ drop ! $
@@ -157,7 +157,7 @@ module _ {M : Type 1} (𝓤 : URA M) (H : Heap 𝓤) (A : Atoms 𝓤) (W : Given
         calls-at ! fm (InPlace 𝓤 H A at-mem run) known (to ν l₃ δ) (and-then ! (load ! (from ! (stop !)) (look ! 5 refl)) (and-then ! (load ! (from ! (stop !)) (look ! 10 refl)) (no-more !))) (λ u.
         use1 W (later (some (λ (r : Reply). ((‵ (flft (ν ∷ []) fullShare) ⊛ ‵ (flft κ q) ⊛ ‵ ftrue) ⊛ ‵ (E.the-row .own r (u ∷ []))) ⊛ raw (ensured 𝓤 H A callee.ended (callee.clauses 𝓤 H A at-mem run) (κs ν) (arg l₃ δ) tt r)))) (id⊢ 𝓤 _) $ await ! tt $ pick ! (λ r.
         -- what the callee ensures, at some last record
-        split ! $ move ! (1 ∷ []) $ use1 W (some (λ (ws : Device × (Unit {0} × Unit {0})). ‵ (lasts callee.ended (κs ν) (arg l₃ δ) ws) ⊛ raw (fact 𝓤 (Said r (ws .0))))) (id⊢ 𝓤 _) $ pick ! (λ ws.
+        split ! $ move ! (1 ∷ []) $ use1 W (some (λ (ws : Cabinet × (Unit {0} × Unit {0})). ‵ (lasts callee.ended (κs ν) (arg l₃ δ) ws) ⊛ raw (fact 𝓤 (Said r (ws .0))))) (id⊢ 𝓤 _) $ pick ! (λ ws.
         split ! $ move ! (1 ∷ []) $ heard ! (Said r (ws .0)) (λ e. fsplit ! $ move ! (2 ∷ []) $ split ! $ move ! (1 ∷ []) $
         -- [the reply; the tokens; the last record; …; what the area owns; the lender's part; _6; …; _5; …; _4; …; … of _3; _2; …; _1; …; room for _0; …]
         peeks ! E.the-row (Is E.the-row) (shows 𝓤 H A E.the-row) r (u ∷ []) (λ isr.
@@ -175,7 +175,7 @@ module _ {M : Type 1} (𝓤 : URA M) (H : Heap 𝓤) (A : Atoms 𝓤) (W : Given
         keep ! (1 ∷ 4 ∷ []) $ by ! (exits r (ws .0) (told r u isr) isw ish e))))))))))))))))
 
 module _ {M : Type 1} (𝓤 : URA M) (H : Heap 𝓤) (A : Atoms 𝓤) (W : Given 𝓤 H A) (at-mem : Memory → SProp 𝓤) (run : Routine → Fun 𝓤) where
-  mine-walks : (C : Calls 𝓤 H) (Λ : Loops 𝓤 H) → FmC 𝓤 H (W .laws) C → Triple 𝓤 (C #module-clock·tick-in-place) (InPlace 𝓤 H A at-mem run)
+  mine-walks : (C : Calls 𝓤 H) (Λ : Loops 𝓤 H) → FmC 𝓤 H (W .laws) C → Triple 𝓤 (C #cabinet-clock·tick-in-place) (InPlace 𝓤 H A at-mem run)
       → Walks 𝓤 H A mine.ended stayed (WpFn 𝓤 H C Λ code.function) (mine.clauses 𝓤 H A at-mem run)
   mine-walks C Λ fm known = walked 𝓤 H A mine.ended stayed (mine.clauses 𝓤 H A at-mem run) (WpFn 𝓤 H C Λ code.function) (λ κs. (vals, (slice-vals, tt))) (λ κs. (LL.tells T.the-type T′.the-laws, (shr-slice-tells (named 0) (κs .0) u8, tt)))
       (λ κs qs bounds a g are. via 𝓤 _ (fst∗ 𝓤 _ (emp 𝓤)) (walk 𝓤 H A W at-mem run (κs .0) (qs .0) (a .0) (a .1 .0) C Λ fm known (are .0) (are .1 .0)))
@@ -184,7 +184,7 @@ module _ {M : Type 1} (𝓤 : URA M) (H : Heap 𝓤) (A : Atoms 𝓤) (W : Given
   goes = (goes-none 𝓤 H A W 1 (λ _. T.the-row) yes (λ κs x f. refl), (goes-none-slice 𝓤 H A W 1 (0 ∷ []) tt (plain (λ _. u8)) yes, tt))
 
 mine-meets : {M : Type 1} (𝓤 : URA M) (H : Heap 𝓤) (A : Atoms 𝓤) (W : Given 𝓤 H A) (at-mem : Memory → SProp 𝓤) (run : Routine → Fun 𝓤) (𝓣 : Tables 𝓤 H)
-    → Triple 𝓤 (𝓣 .C #module-clock·tick-in-place) (InPlace 𝓤 H A at-mem run)
+    → Triple 𝓤 (𝓣 .C #cabinet-clock·tick-in-place) (InPlace 𝓤 H A at-mem run)
     → Meets 𝓤 H A mine.signature (WpFn 𝓤 H (𝓣 .C) (𝓣 .Λ) code.function) (mine.spec 𝓤 H A at-mem run)
 mine-meets 𝓤 H A W at-mem run 𝓣 known = walk-meets 𝓤 H A mine.ended stayed W (goes 𝓤 H A W at-mem run) (mine.clauses 𝓤 H A at-mem run) (WpFn 𝓤 H (𝓣 .C) (𝓣 .Λ) code.function) (WpFn-mono 𝓤 H (W .laws) 𝓣 code.function)
     (mine-walks 𝓤 H A W at-mem run (𝓣 .C) (𝓣 .Λ) (fmOf 𝓤 H (W .laws) 𝓣) known)
@@ -195,4 +195,4 @@ tick-mine-spec 𝓤 H 𝓜 𝓖 𝓡 =
     entered 𝓤 H (tripleOf 𝓤 H (𝓖 .A) mine.signature (mine.spec 𝓤 H (𝓖 .A) (𝓜 .mem) (𝓡 .run)))
     (tables 𝓤 H 𝓜 𝓡 code.env .C) (tables 𝓤 H 𝓜 𝓡 code.env .Λ) #program-walks·tick-mine code.function (code.unfolded 𝓤 H 𝓜 𝓡)
     (mine-meets 𝓤 H (𝓖 .A) (givenOf 𝓤 H 𝓜 𝓖) (𝓜 .mem) (𝓡 .run) (tablesOf 𝓤 H 𝓜 (tables 𝓤 H 𝓜 𝓡 code.env))
-    (cited 𝓤 H (InPlace 𝓤 H (𝓖 .A) (𝓜 .mem) (𝓡 .run)) 𝓜 𝓡 code.env #module-clock·tick-in-place callee-def.routine code.calls-module-clock·tick-in-place (callee-thm.met 𝓤 H 𝓜 𝓖 𝓡)))
+    (cited 𝓤 H (InPlace 𝓤 H (𝓖 .A) (𝓜 .mem) (𝓡 .run)) 𝓜 𝓡 code.env #cabinet-clock·tick-in-place callee-def.routine code.calls-cabinet-clock·tick-in-place (callee-thm.met 𝓤 H 𝓜 𝓖 𝓡)))

@@ -9,7 +9,7 @@ in-a-row : tie.Need-returns
 in-a-row c =
     let fifth = c .before .before in
     let fourth = fifth .before .before .before .before in
-    let third = fourth .before .before .before .before .before in
+    let third = fourth .before .before .before .before in
     let second = third .before .before .before .before .before in
     let first = second .before .before .before .before in
     let start = first .before .before .before .before .before in
@@ -24,7 +24,7 @@ in-a-row c =
       wrote = and-then (omega (arith, start .pre)) row (p5 .wrote);
     }
 
--- what the search closes: the texts' lengths, the room of each part and the count's width, and the buffer's length at the end
+-- what the search closes: the texts' lengths, the room of each part, and the buffer's length at the end
 pub put-last-spec : {M : Type 1} → statement M
 put-last-spec =
     tie.close
@@ -34,7 +34,6 @@ put-last-spec =
     (λ c κs. search needs)
     (λ c. search needs)
     (λ c κs. search needs)
-    (λ c. search needs)
     (λ c κs. search needs)
     (λ c κs. search needs)
     (λ c. search needs)

@@ -5,7 +5,7 @@ use native.Mathlib.Omega.{arith}
 use lib.ListN.{length}
 use borrow.Author.Needs.{needs}
 use Rattle.log_reader.specs.declared.Found.the-variants.{Short, End}
-use Rattle.rules.specs.Record.{moduleOf}
+use Rattle.rules.specs.Record.{wholeOf}
 use Rattle.replay_log.proofs.{Found.{record-within, record-says, as-found, as-record, nothing-written}, play_at.Statement.statement}
 use Rattle.replay_log.proofs.play_at.Tie as tie
 
@@ -47,20 +47,20 @@ a-record c =
     let w = c .before .before .before .before .before .before .play-entry .ensures in
     let k = c .before .before .before .before .before .before .before .before .before .before .before .before in
     let a = k .before .before .before .before .before .before .before .args in
-    as-record (a .log .now) (a .place) (k .before .before .read-at .ensures) (a .number) (moduleOf (a .d) (a .area .now)) (k .found .given .1) w
+    as-record (a .log .now) (a .place) (k .before .before .read-at .ensures) (a .number) (wholeOf (a .c) (a .area .now)) (k .found .given .1) w
 
 a-tail : tie.Need-returns-2
 a-tail c =
     let w = c .before .before .put-tail .ensures in
     let k = c .before .before .before .before in
     let a = k .before .before .before .before .before .before .before .args in
-    as-found (a .log .now) (a .place) (k .before .before .read-at .ensures) (a .number) (moduleOf (a .d) (a .area .now)) Short (k .enum-told .given .1)
-    (record { within = w .within; wrote = w .wrote; module-is = refl })
+    as-found (a .log .now) (a .place) (k .before .before .read-at .ensures) (a .number) (wholeOf (a .c) (a .area .now)) Short (k .enum-told .given .1)
+    (record { within = w .within; wrote = w .wrote; whole-is = refl })
 
 the-end : tie.Need-returns-3
 the-end c =
     let a = c .before .before .before .before .before .before .before .args in
-    as-found (a .log .now) (a .place) (c .before .before .read-at .ensures) (a .number) (moduleOf (a .d) (a .area .now)) End (c .enum-told2 .given .1) (nothing-written (a .out .now))
+    as-found (a .log .now) (a .place) (c .before .before .read-at .ensures) (a .number) (wholeOf (a .c) (a .area .now)) End (c .enum-told2 .given .1) (nothing-written (a .out .now))
 
 -- what the search closes: the reader's parameters, the entry as it is told, the tail's room, and the buffers' lengths at the end
 pub play-at-spec : {M : Type 1} → statement M

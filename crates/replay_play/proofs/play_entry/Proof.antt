@@ -1,6 +1,6 @@
--- `replay_play::play_entry` meets its contract: the play's promise gives the module and the reply, and the line is the reply's.
+-- `replay_play::play_entry` meets its contract: the play's promise gives the cabinet and the reply, and the line is the reply's.
 use borrow.Author.Needs.{needs}
-use Rattle.rules.specs.Record.{moduleOf}
+use Rattle.rules.specs.Record.{wholeOf}
 use Rattle.text.proofs.Writing.{rewrote}
 use Rattle.replay_play.proofs.{Lines.of-record, play_entry.Statement.statement}
 use Rattle.replay_play.proofs.play_entry.Tie as tie
@@ -13,8 +13,8 @@ played c =
     let a = start .args in
     record {
       within = line .within;
-      wrote = rewrote (of-record (a .number) (moduleOf (a .d) (a .area .now)) (a .bytes .now) (start .pre .1 .1) (k .play .ensures .reply-is)) (line .wrote);
-      module-is = k .play .ensures .module-is;
+      wrote = rewrote (of-record (a .number) (wholeOf (a .c) (a .area .now)) (a .bytes .now) (start .pre .1 .1) (k .play .ensures .reply-is)) (line .wrote);
+      whole-is = k .play .ensures .whole-is;
     }
 
 -- by search: play-requires, put-entry-requires, same-length, same-length-2, same-length-3

@@ -10,7 +10,7 @@ a-call c =
     let w = c .before .before .put-call .ensures in
     let told = c .before .before .before .before .before in
     let a = told .before .before .before .args in
-    as-told (a .number) (a .reply) (Call _ _ _ _) (told .entry .given .1) (w .within) (w .wrote)
+    as-told (a .number) (a .reply) (Call _ _ _ _ _) (told .entry .given .1) (w .within) (w .wrote)
 
 a-tick : tie.Need-returns-2
 a-tick c =
@@ -24,14 +24,14 @@ a-power c =
     let w = c .before .before .put-field2 .ensures in
     let told = c .before .before .before .before .before in
     let a = told .before .before .before .args in
-    as-told (a .number) (a .reply) Power (told .enum-told2 .given .1) (omega (arith, w .within)) (w .wrote)
+    as-told (a .number) (a .reply) (Power _) (told .enum-told2 .given .1) (omega (arith, w .within)) (w .wrote)
 
 a-reading : tie.Need-returns-4
 a-reading c =
     let w = c .before .before .put-field3 .ensures in
     let told = c .before .before .before .before .before in
     let a = told .before .before .before .args in
-    as-told (a .number) (a .reply) (Health _ _ _) (told .enum-told3 .given .1) (omega (arith, w .within)) (w .wrote)
+    as-told (a .number) (a .reply) (Health _ _ _ _) (told .enum-told3 .given .1) (omega (arith, w .within)) (w .wrote)
 
 bad : tie.Need-returns-5
 bad c =

@@ -8,7 +8,7 @@ use Rattle.replays.proofs.put_part.Tie as tie
 returns : tie.Need-returns
 returns c =
     let p = c .before .before .before .before .before .before .put-lines .ensures in
-    record { within = search needs; wrote = simp unary-clauses at (p .wrote); module-is = simp unary-clauses at (p .module-is) }
+    record { within = search needs; wrote = simp unary-clauses at (p .wrote); whole-is = simp unary-clauses at (p .whole-is) }
 
 -- by search: sub-put-lines, part-put-lines-start, part-put-lines-end, put-lines-requires, same-length, same-length-2, same-length-3
 pub put-part-spec : {M : Type 1} → statement M

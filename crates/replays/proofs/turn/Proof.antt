@@ -13,7 +13,7 @@ returns-2 : tie.Need-returns-2
 returns-2 c = simp (c .before .before .before .before .before .enum-told2 .given .1) (c .put-part .ensures)
 
 returns-3 : tie.Need-returns-3
-returns-3 c = simp (c .before .before .before .turn .given .1) (record { within = c .put-end .ensures .within; wrote = c .put-end .ensures .wrote; module-is = refl })
+returns-3 c = simp (c .before .before .before .turn .given .1) (record { within = c .put-end .ensures .within; wrote = c .put-end .ensures .wrote; whole-is = refl })
 
 returns-4 : tie.Need-returns-4
 returns-4 c = simp (c .enum-told3 .given .1) (nothing-written (c .before .before .args .out .now))

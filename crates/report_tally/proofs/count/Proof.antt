@@ -17,7 +17,7 @@ of-function-0 c =
     let told = c .before .before .before in
     let a = told .before .before .before .before .args in
     let call = told .entry .given .0 in
-    a-mask (a .grid .now) (a .counting) (a .reply) (call .0) (call .1 .0) (call .1 .1 .0) (call .1 .1 .1 .0) (told .before .before .before .if1 .left) (told .entry .given .1)
+    a-mask (a .grid .now) (a .counting) (a .reply) (call .0) (call .1 .0) (call .1 .1 .0) (call .1 .1 .1 .0) (call .1 .1 .1 .1 .0) (told .before .before .before .if1 .left) (told .entry .given .1)
     (c .before .if2 .taken) (c .count-mask .ensures)
 
 answer-requires : tie.Need-count-answer-requires
@@ -25,7 +25,7 @@ answer-requires c κs =
     let told = c .before .before .before .before in
     let start = told .before .before .before .before in
     let call = told .entry .given .0 in
-    let cell = has-cell (start .args .reply) (call .0) (call .1 .0) (call .1 .1 .0) (call .1 .1 .1 .0) (told .entry .given .1) (start .pre) in
+    let cell = has-cell (start .args .reply) (call .0) (call .1 .0) (call .1 .1 .0) (call .1 .1 .1 .0) (call .1 .1 .1 .1 .0) (told .entry .given .1) (start .pre) in
     (cell .0, cell .1, omega (arith, c .before .printed-status .ensures, cell .2))
 
 of-other : tie.Need-returns-3
@@ -33,7 +33,7 @@ of-other c =
     let told = c .before .before .before .before .before in
     let a = told .before .before .before .before .args in
     let call = told .entry .given .0 in
-    an-answer (a .grid .now) (a .counting) (a .reply) (call .0) (call .1 .0) (call .1 .1 .0) (call .1 .1 .1 .0) (told .before .before .before .if1 .left) (told .entry .given .1)
+    an-answer (a .grid .now) (a .counting) (a .reply) (call .0) (call .1 .0) (call .1 .1 .0) (call .1 .1 .1 .0) (call .1 .1 .1 .1 .0) (told .before .before .before .if1 .left) (told .entry .given .1)
     (c .before .before .before .if2 .left) (c .before .before .printed-status .ensures) (c .count-answer .ensures)
 
 a-tick : tie.Need-returns-4
@@ -47,14 +47,14 @@ a-power : tie.Need-returns-5
 a-power c =
     let told = c .before in
     let a = told .before .before .before .before .args in
-    as-told (tallyOf (a .grid .now) (a .counting .counts) (a .counting .full)) (a .reply) Power (told .enum-told2 .given .1)
+    as-told (tallyOf (a .grid .now) (a .counting .counts) (a .counting .full)) (a .reply) (Power _) (told .enum-told2 .given .1)
     (beside (a .grid .now) (a .counting) powered (told .before .before .before .if1 .left) refl (c .count-power .ensures))
 
 a-reading : tie.Need-returns-6
 a-reading c =
     let told = c .before in
     let a = told .before .before .before .before .args in
-    as-told (tallyOf (a .grid .now) (a .counting .counts) (a .counting .full)) (a .reply) (Health _ _ _) (told .enum-told3 .given .1)
+    as-told (tallyOf (a .grid .now) (a .counting .counts) (a .counting .full)) (a .reply) (Health _ _ _ _) (told .enum-told3 .given .1)
     (beside (a .grid .now) (a .counting) measured (told .before .before .before .if1 .left) refl (c .count-reading .ensures))
 
 a-bad : tie.Need-returns-7

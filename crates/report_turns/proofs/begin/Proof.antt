@@ -1,6 +1,6 @@
--- `report_turns::begin` meets its contract: what is kept is counted on, and the module is fresh.
+-- `report_turns::begin` meets its contract: what is kept is counted on, and both modules are fresh.
 use mathlib.Core.{Path.refl, Bool.false}
-use Rattle.rules.{specs.Bytes.zeros, specs.Numbers.areaSize, specs.Record.moduleOf, specs.Report.Report}
+use Rattle.rules.{specs.Bytes.zeros, specs.Numbers.areaSize, specs.Record.wholeOf, specs.Report.Report}
 use borrow.Author.Needs.{needs}
 use Rattle.report_turns.proofs.begin.Statement.{statement}
 use Rattle.report_turns.proofs.begin.Tie as tie
@@ -10,7 +10,7 @@ returns c =
     let a = c .before .before .before .args in
     let report : Report = record { grid = a .kept .now; counts = a .counts } in
     record {
-      state-is = λ i. record { kept = report; tally = record { report = report; full = false }; module-now = moduleOf (c .fresh .ensures i) (zeros areaSize) };
+      state-is = λ i. record { kept = report; tally = record { report = report; full = false }; whole-now = wholeOf (c .fresh .ensures i) (zeros areaSize) };
       refused-is = refl;
     }
 
