@@ -12,11 +12,11 @@ use Rattle.rules.specs.declared.{Comparison.Comparison, Comparison.the-v
 use Rattle.rules.proofs.page.Places.{same-refl, six, as-long, all-equal}
 
 -- ---- which places are listed
-or-assoc : (a b c : Bool) → ((a || b) || c) ≡ (a || (b || c))
+pub or-assoc : (a b c : Bool) → ((a || b) || c) ≡ (a || (b || c))
 or-assoc true b c = refl
 or-assoc false b c = refl
 
-or-none : (a : Bool) → (a || false) ≡ a
+pub or-none : (a : Bool) → (a || false) ≡ a
 or-none true = refl
 or-none false = refl
 
@@ -40,7 +40,7 @@ listed-at j number x y = go (same? x y)
     go false = and-true (number =? j)
 
 -- a place before the last one, the last one, or one past it
-one-more : (P : ℕ → Bool) (j n : ℕ) → ((j <? n && P j) || (n =? j && P n)) ≡ (j <? suc n && P j)
+pub one-more : (P : ℕ → Bool) (j n : ℕ) → ((j <? n && P j) || (n =? j && P n)) ≡ (j <? suc n && P j)
 one-more P j n = go (j <? n) (n =? j) refl refl
   where
     go : (b c : Bool) → (j <? n) ≡ b → (n =? j) ≡ c → ((j <? n && P j) || (n =? j && P n)) ≡ (j <? suc n && P j)
