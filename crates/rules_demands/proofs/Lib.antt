@@ -18,5 +18,7 @@ pub mod Comparisons
 pub mod Trips
 -- Two modules: what one has of the other.
 pub mod Modules
+-- Damaged logs.
+pub mod Salvages
 -- That demand 3 is not empty: the incident at sea, computed.
 pub mod Incident

@@ -1,4 +1,4 @@
--- The demands a second time, written out: each promise of rules with none of its own words (but for Comparisons, which takes a report's words from rules and says
+-- The demands a second time, written out: each promise of rules with none of its own words (but for Comparisons and Salvages, which take a report's and a salvage's words from rules and say
 -- by bytes, numbers and examples what they come to), and proved from it. Nobody has to read them for the demands, which
 -- are rules' Demand1.antt and Demand3.antt; they are here so that none of those can come to say less unseen (docs/DECISIONS.md, p).
 pub mod Calls
@@ -20,3 +20,5 @@ pub mod Comparisons
 pub mod Trips
 -- Two modules: what one has of the other.
 pub mod Modules
+-- Damaged logs.
+pub mod Salvages

@@ -1,6 +1,6 @@
 // The demands, each cited by a contract, so that the gate fails where its theorem is gone. Beside each stands the same promise written out with none of its
-// words (T-06's with those of a report, by bytes and numbers) and proved from it, so that the gate fails where the theorem says less. Demand 2 is what
-// crates/cabinet promises of the code.
+// words (T-06's and T-10's with those of a report and of a salvage, by bytes and numbers) and proved from it, so that the gate fails where the theorem says
+// less. Demand 2 is what crates/cabinet promises of the code.
 ghost use Rattle.rules.specs.Demand1.{Demand1};
 ghost use Rattle.rules.specs.Demand3.{Demand3};
 ghost use Rattle.rules.specs.Report.{RequestT01};
@@ -12,6 +12,7 @@ ghost use Rattle.rules.specs.Reserved.{RequestT05};
 ghost use Rattle.rules.specs.Compare.{RequestT06};
 ghost use Rattle.rules.specs.TripsKept.{RequestT08};
 ghost use Rattle.rules.specs.Apart.{RequestT09};
+ghost use Rattle.rules.specs.Salvage.{RequestT10};
 ghost use Rattle.rules_demands.specs.Calls.{Demand1WrittenOut};
 ghost use Rattle.rules_demands.specs.Histories.{Demand3WrittenOut};
 ghost use Rattle.rules_demands.specs.Beside.{BesideWrittenOut};
@@ -24,6 +25,7 @@ ghost use Rattle.rules_demands.specs.Reserved.{ReservedMeansZero, Reserv
 ghost use Rattle.rules_demands.specs.Comparisons.{ComparisonsWrittenOut, ComparisonsHeld};
 ghost use Rattle.rules_demands.specs.Trips.{TripsWrittenOut, TripsHeld};
 ghost use Rattle.rules_demands.specs.Modules.{ModulesWrittenOut, StartsNeeded, ModulesHeld};
+ghost use Rattle.rules_demands.specs.Salvages.{SalvagesWrittenOut, SalvagesHeld};
 
 // Any call gets an answer, and a refusal leaves what it must.
 pub fn demand_1()
@@ -108,4 +110,11 @@ pub fn request_t09()
     ensures { λ r. ⌜ ModulesWrittenOut ⌝ }
     ensures { λ r. ⌜ StartsNeeded ⌝ }
     ensures { λ r. ⌜ ModulesHeld ⌝ }
+{}
+
+// Document 02, T-10: what the clean log of any bytes is and what its list names, how it replays, and when nothing is written; the same written out; and examples.
+pub fn request_t10()
+    ensures { λ r. ⌜ RequestT10 ⌝ }
+    ensures { λ r. ⌜ SalvagesWrittenOut ⌝ }
+    ensures { λ r. ⌜ SalvagesHeld ⌝ }
 {}
