@@ -50,7 +50,7 @@ pub kept-if-good : (bytes : List ℕ) → good bytes ≡ true → fateOf bytes �
 unfolding fateOf
 kept-if-good bytes e = ap (λ (t : Bool). if t then Kept else if badOnlyForPadding bytes then Mended else Dropped) e
 
-mended-good : (bytes : List ℕ) → badOnlyForPadding bytes ≡ true → good (mended bytes) ≡ true
+pub mended-good : (bytes : List ℕ) → badOnlyForPadding bytes ≡ true → good (mended bytes) ≡ true
 mended-good bytes e = and-true (not (good bytes) && kindIn bytes =? 1) (good (mended bytes)) e .1
 
 -- a record that is mended differs: it was bad, and is good
