@@ -89,7 +89,7 @@ saved-most Mended bytes g = omega (arith, good-long (mended bytes) (mended-good 
 saved-most Dropped bytes g = omega arith
 
 -- what is saved of so many records is no longer than they are
-clean-most : (log : List ℕ) (j : ℕ) → length (cleanTo log j) ≤ j * 544
+pub clean-most : (log : List ℕ) (j : ℕ) → length (cleanTo log j) ≤ j * 544
 unfolding cleanTo
 clean-most log zero = omega arith
 clean-most log (suc j) =

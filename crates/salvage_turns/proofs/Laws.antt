@@ -10,7 +10,7 @@ use Rattle.rules.specs.Salvage.{cleanLog, changesFrom, salvagingFrom, entries, 
 use Rattle.rules.specs.declared.{Salvaging.Salvaging, Salvaging.the-variants.{Salvaged, OutputTooShort, ListTooShort}}
 use Rattle.rules.proofs.page.Salvaged.{as-many}
 use Rattle.text.{specs.Wrote.{Wrote, WroteWithin}, proofs.Writing.rewrote}
-use Rattle.salvage_log.proofs.Laws.{most}
+use Rattle.salvage_log.proofs.Laws.{most, clean-most}
 use Rattle.salvage_text.{specs.Lines.entryLines, proofs.Laws.text-of-entries}
 
 -- whether an answer is that of a log that was salvaged, and with which numbers
@@ -43,8 +43,8 @@ module _ (number : ℕ) (part output list : List ℕ) (fits : length part ≤ le
       pub sizes : (l ≡ length (cleanLog part)) × (c ≡ length (changesFrom number part))
       sizes = subst (Told (length (cleanLog part)) (length (changesFrom number part))) f (told e)
 
-      pub count-room : (after : List ℕ) → length after ≡ length list → (c ≤ length after) × (40 * c ≤ 4840)
-      count-room after same = let n = sizes .1 in (omega (arith, n, few, same), omega (arith, n, few, holds))
+      pub count-room : (c ≤ length list) × (40 * c ≤ 4840)
+      count-room = let n = sizes .1 in (omega (arith, n, few), omega (arith, n, few, holds))
 
       pub wrote-clean : (new : List ℕ) → new ≡ outputAfter answer part output → Wrote output 0 (cleanLog part) new l
       wrote-clean new o =
@@ -65,3 +65,7 @@ module _ (number : ℕ) (part output list : List ℕ) (fits : length part ≤ le
             within = omega (arith, w .within, n, few, holds);
             wrote = rewrote (ap entryLines front ∙ text-of-entries cs) (w .wrote);
           }
+
+-- the clean log of a part is no longer than the part
+pub clean-inside : (part : List ℕ) {old new : List ℕ} {r : ℕ} → Wrote old 0 (cleanLog part) new r → r ≤ length part
+clean-inside part w = omega (arith, w .next-is, clean-most part (recordsIn part))

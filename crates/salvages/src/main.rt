@@ -1,15 +1,19 @@
 // Makes clean logs of damaged ones: `LOG CLEAN` writes the clean log of LOG to the new file CLEAN, and a line for each change to standard output; several pairs are
 // taken one after another, and `-f` before them lets CLEAN be there already. A LOG of `-` is standard input. A log is read in parts, so that memory does not grow with it. The clean log is
 // written to CLEAN.part, which gets its name when all of it is there: CLEAN is whole or not at all. What goes wrong is named on standard error.
-ghost use Prim.Native.Nat.{_+_, _*_, _≤_, _<_};
+ghost use Prim.Native.Nat.{_+_, _≤_, _<_};
 ghost use lib.ListN.{length};
+ghost use mathlib.Core.Path.{_≡_};
 ghost use Rattle.program_logs.specs.Turns.{partSize};
+ghost use Rattle.salvage_writing.specs.Numbers.{mostRecords};
+ghost use Rattle.salvage_turns.specs.Parts.{mostChanges, textRoom};
 use libc::STDERR_FILENO;
 use libc::STDOUT_FILENO;
 use program_files::PART;
 use program_logs::NAME;
 use salvage_turns::CHANGES;
 use salvage_turns::TEXT;
+use salvage_turns::Turned;
 
 // The name of the part file: that of the clean log, and what is put behind it.
 const PARTIAL: usize = 4101;
@@ -33,6 +37,29 @@ fn refuse(name: &[u8], reason: &[u8]) {
     io::write_all(STDERR_FILENO, b"\n");
 }
 
+// One turn, on the front of a buffer.
+fn turn(
+    number: u64,
+    part: &[u8],
+    have: usize,
+    output: &mut [u8],
+    list: &mut [u64],
+    text: &mut [u8],
+) -> Turned
+    requires { ⌜ (number + 120 < mostRecords) × (length (now part) ≡ partSize) × (have ≤ length (now part)) ⌝ }
+    requires { ⌜ (length (now output) ≡ partSize) × (length (now list) ≡ mostChanges) × (length (now text) ≡ textRoom) ⌝ }
+    ensures { λ r. ⌜ (r .clean ≤ partSize) × (r .text ≤ textRoom) ⌝ }
+{
+    salvage_turns::turn(number, &part[0..have], output, list, text)
+}
+
+// Writes the front of a buffer out.
+fn write(to: i32, out: &[u8], end: usize) -> bool
+    requires { ⌜ end ≤ length (now out) ⌝ }
+{
+    io::write_all(to, &out[0..end])
+}
+
 // Reads a log to its end, and writes the clean one and the lines part by part.
 fn go_through(
     log: i32,
@@ -49,17 +76,14 @@ fn go_through(
         if filled.failed {
             return Ended::LogUnreadable;
         }
-        let have = filled.have;
-        let turned = salvage_turns::turn(number, &part[0..have], output, list, text);
-        let clean_end = turned.clean;
-        if !io::write_all(clean, &output[0..clean_end]) {
+        let turned = turn(number, part, filled.have, output, list, text);
+        if !write(clean, output, turned.clean) {
             return Ended::CleanUnwritable;
         }
-        let text_end = turned.text;
-        if !io::write_all(STDOUT_FILENO, &text[0..text_end]) {
+        if !write(STDOUT_FILENO, text, turned.text) {
             return Ended::TextUnwritable;
         }
-        if have < PART {
+        if filled.have < PART {
             return Ended::All;
         }
         number += 120;
@@ -164,7 +188,9 @@ fn write_clean(log: i32, log_name: &[u8], name: &[u8], force: bool)
 }
 
 // The pair of names that begins with this argument.
-fn pair(argument: usize, force: bool) {
+fn pair(argument: usize, force: bool)
+    requires { ⌜ argument + 2 ≤ 18446744073709551615 ⌝ }
+{
     let mut log_name = [0u8; NAME];
     let mut name = [0u8; NAME];
     let log = program_files::open_log(argument, &mut log_name);
