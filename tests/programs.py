@@ -54,6 +54,11 @@ COMPARES = "compares"
 PAIR = ("ship", "laptop")
 
 
+# The program behind bin/salvage, which takes pairs of a log and a new file: its crate, and the story of a damaged log.
+SALVAGES = "salvages"
+CARD = "card"
+
+
 # The files of the independent program that are compiled for it, main's last.
 INDEPENDENT = ("module", "image", "image_files", "compare", "salvage", "report", "replay")
 
@@ -142,7 +147,7 @@ def stale(path, crate):
 
 def crate_of(word):
     """The crate of the proved program of a text."""
-    return COMPARES if word == "compare" else PROGRAMS[word].crate
+    return {"compare": COMPARES, "salvage": SALVAGES}.get(word) or PROGRAMS[word].crate
 
 
 def proved(name, folder=None):
