@@ -35,14 +35,14 @@ so-far number (part ∷ parts) p = go (p .0) (so-far (number + recordsIn part) p
         let count : recordsIn part ≡ 120 = omega (arith, full) in (
           ap (λ (l : List ℕ). cleanLog part ++ l) (e .0) ∙ sym (clean-parts part (joined parts) 120 whole),
           ap (λ (l : List ℕ). changesText (changesFrom number part) ++ l) (e .1 ∙ ap (λ (n : ℕ). changesText (changesFrom (number + n) (joined parts))) count)
-          ∙ sym (text-both (changesFrom number part) (changesFrom (number + 120) (joined parts)))
-          ∙ ap changesText (sym (changes-parts part (joined parts) 120 whole number)),
+              ∙ sym (text-both (changesFrom number part) (changesFrom (number + 120) (joined parts)))
+              ∙ ap changesText (sym (changes-parts part (joined parts) 120 whole number)),
         )
     go (inr last) e =
         let bare : part ≡ part ++ joined parts = sym (ap (λ (l : List ℕ). part ++ l) (last .1) ∙ append-nil part) in (
           ap (λ (l : List ℕ). cleanLog part ++ l) (e .0 ∙ ap cleanLog (last .1) ∙ nothing-clean) ∙ append-nil (cleanLog part) ∙ ap cleanLog bare,
           ap (λ (l : List ℕ). changesText (changesFrom number part) ++ l) (e .1 ∙ ap (λ (l : List ℕ). changesText (changesFrom (number + recordsIn part) l)) (last .1) ∙ nothing-listed (number + recordsIn part))
-          ∙ append-nil (changesText (changesFrom number part)) ∙ ap (λ (l : List ℕ). changesText (changesFrom number l)) bare,
+              ∙ append-nil (changesText (changesFrom number part)) ∙ ap (λ (l : List ℕ). changesText (changesFrom number l)) bare,
         )
 
 pub salvage-of-parts : SalvageOfParts

@@ -67,7 +67,7 @@ loop-less c = search needs
 
 -- src/lib.rt:48:5
 loop-again : tie.Need-loop-again Inv-loop μ-loop
-loop-again c = 
+loop-again c =
     let k = c .before .before .before .before in
     let log = k .before .before .args .log .now in
     let e : suc (k .loop .j) ≡ k .loop .j + 1 = omega arith in
@@ -76,7 +76,7 @@ loop-again c =
 
 -- src/lib.rt:41:1
 returns : tie.Need-returns Inv-loop μ-loop
-returns c = 
+returns c =
     let k = c .before in
     let log = k .before .before .args .log .now in
     let e : k .loop .j ≡ recordsIn log = omega arith in

@@ -65,7 +65,7 @@ part-put-saved-end c = search needs
 
 -- src/lib.rt:72:9
 put-saved-requires : tie.Need-put-saved-requires Inv-loop μ-loop
-put-saved-requires c κs = 
+put-saved-requires c κs =
     let k = c .before .before .before .before .before in
     let log = k .before .before .before .before .args .log .now in
     let size = mid-len (k .loop .j * 544) (k .loop .j * 544 + 544) log (omega arith) ∙ add-sub-cancel-left (k .loop .j * 544) 544 in
@@ -77,7 +77,7 @@ add-put-change c = search needs
 
 -- src/lib.rt:73:9
 put-change-requires : tie.Need-put-change-requires Inv-loop μ-loop
-put-change-requires c κs = 
+put-change-requires c κs =
     let k = c .before .before .before .before .before .before .before .before .before in
     let a = k .before .before .before .before in
     let log = a .args .log .now in
@@ -94,7 +94,7 @@ loop-less c = search needs
 
 -- src/lib.rt:68:5
 loop-again : tie.Need-loop-again Inv-loop μ-loop
-loop-again c = 
+loop-again c =
     let k = c .before .before .before .before .before .before .before .before .before .before .before .before in
     let a = k .before .before .before .before .args in
     let log = a .log .now in
@@ -114,7 +114,7 @@ same-length-2 c = search needs
 
 -- src/lib.rt:58:1
 returns : tie.Need-returns Inv-loop μ-loop
-returns c = 
+returns c =
     let k = c .before in
     let a = k .before .before .before .before .args in
     let log = a .log .now in

@@ -36,7 +36,7 @@ loop-less : tie.Need-loop-less Inv-loop μ-loop
 loop-less c = search needs
 
 loop-again : tie.Need-loop-again Inv-loop μ-loop
-loop-again c = 
+loop-again c =
     let k = c .before .before .before .before .before .before in
     let a = k .before .before .before .args in
     let e : suc (k .loop .i) ≡ k .loop .i + 1 = omega arith in
@@ -46,7 +46,7 @@ same-length : tie.Need-same-length Inv-loop μ-loop
 same-length c = search needs
 
 returns : tie.Need-returns Inv-loop μ-loop
-returns c = 
+returns c =
     let k = c .before in
     let a = k .before .before .before .args in
     let e : k .loop .i ≡ a .count = omega arith in
