@@ -37,10 +37,11 @@ pub mod Reserved
 pub mod Places
 pub mod Compared
 pub mod TripsKept
-pub mod Joined
-pub mod Mended
-pub mod Salvaged
 -- T-09: what one module has of the other.
 pub mod Apart
 pub mod Alike
 pub mod Unseen
+-- T-10: damaged logs.
+pub mod Joined
+pub mod Mended
+pub mod Salvaged

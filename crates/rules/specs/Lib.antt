@@ -83,6 +83,7 @@ pub mod Adopt
 pub mod Reserved
 pub mod Compare
 pub mod TripsKept
-pub mod Salvage
 -- T-09: two modules. The cabinet stands above (Record.antt, Cabinet.antt), and demand 3 is of both; here is what one module has of the other.
 pub mod Apart
+-- T-10: damaged logs.
+pub mod Salvage

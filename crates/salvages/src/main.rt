@@ -120,7 +120,7 @@ fn is_all(ended: Ended, log: &[u8], partial: &[u8]) -> bool {
     }
 }
 
-// Whether no file has the name. If one has, it is said.
+// Whether no file can be read by the name. If one can, it is said. A link to nothing counts as none, and the name as free.
 fn is_free(name: &[u8]) -> bool {
     let fd = os::open_read(name);
     if fd < 0 {
@@ -150,6 +150,9 @@ fn is_named(clean: i32, partial: &[u8], name: &[u8], force: bool) -> bool {
         os::fail(partial);
     }
     let closed = libc::close(clean) == 0;
+    if synced & !closed {
+        os::fail(partial);
+    }
     if !(synced & closed) {
         return false;
     }
