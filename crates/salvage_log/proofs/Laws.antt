@@ -138,29 +138,37 @@ module _ (number : ℕ) (log : List ℕ) where
   pub output-short : (room listRoom : ℕ) → room < length log → OutputTooShort ≡ salvagingFrom number log room listRoom
   output-short room listRoom h = sym (ap (λ (t : Bool). told t (listRoom <? length (changesFrom number log))) (lt-ltb room (length log) h))
 
-  pub list-short : (room listRoom : ℕ) {counted tail : ℕ} → length log ≤ room → counted ≡ length (changesTo 0 log (recordsIn log)) → tail ≡ length (tailChange 0 (shortTail log))
-      → listRoom < counted + tail → ListTooShort ≡ salvagingFrom number log room listRoom
-  list-short room listRoom h c t g =
-      sym (ap (λ (t : Bool). told t (listRoom <? length (changesFrom number log))) (le-ltb room (length log) h)
-      ∙ ap (told false) (lt-ltb listRoom (length (changesFrom number log)) (omega (arith, c, t, g, all))))
+  -- the numbers play no part in how many changes there are
+  same : length (changesFrom number log) ≡ length (changesFrom 0 log)
+  same =
+      all ∙ ap (λ (n : ℕ). length (changesTo 0 log (recordsIn log)) + n) (tail-alike (shortTail log) 0 (0 + recordsIn log))
+      ∙ sym (length-append (changesTo 0 log (recordsIn log)) (tailChange (0 + recordsIn log) (shortTail log)))
 
-  pub salvaged : (room listRoom : ℕ) {counted tail size count : ℕ} → length log ≤ room → counted ≡ length (changesTo 0 log (recordsIn log))
-      → tail ≡ length (tailChange 0 (shortTail log)) → counted + tail ≤ listRoom → size ≡ length (cleanLog log) → count ≡ length (changesFrom number log)
-      → Salvaged size count ≡ salvagingFrom number log room listRoom
-  salvaged room listRoom {counted} {tail} {size} {count} h c t g e f =
-      ap (λ (n : ℕ). Salvaged n count) e ∙ ap (Salvaged (length (cleanLog log))) f
-      ∙ sym (ap (λ (t : Bool). told t (listRoom <? length (changesFrom number log))) (le-ltb room (length log) h)
-      ∙ ap (told false) (le-ltb listRoom (length (changesFrom number log)) (omega (arith, c, t, g, all))))
+  lacking : (room : ℕ) {lacks t : Bool} → lacks ≡ (room <? length (changesFrom 0 log)) → lacks ≡ t → (room <? length (changesFrom number log)) ≡ t
+  lacking room e f = ap (λ (n : ℕ). room <? n) same ∙ sym e ∙ f
+
+  pub holds-all : (list : List ℕ) {lacks : Bool} → lacks ≡ (length list <? length (changesFrom 0 log)) → lacks ≡ false → length (changesFrom number log) ≤ length list
+  holds-all list e f = ltb-false (length list) (length (changesFrom number log)) (lacking (length list) e f)
+
+  pub list-short : (room listRoom : ℕ) {lacks : Bool} → length log ≤ room → lacks ≡ (listRoom <? length (changesFrom 0 log)) → lacks ≡ true
+      → ListTooShort ≡ salvagingFrom number log room listRoom
+  list-short room listRoom h e f =
+      sym (ap (λ (t : Bool). told t (listRoom <? length (changesFrom number log))) (le-ltb room (length log) h) ∙ ap (told false) (lacking listRoom e f))
+
+  pub salvaged : (room listRoom : ℕ) {lacks : Bool} {size count : ℕ} → length log ≤ room → lacks ≡ (listRoom <? length (changesFrom 0 log)) → lacks ≡ false
+      → size ≡ length (cleanLog log) → count ≡ length (changesFrom number log) → Salvaged size count ≡ salvagingFrom number log room listRoom
+  salvaged room listRoom {lacks} {size} {count} h l f e g =
+      ap (λ (n : ℕ). Salvaged n count) e ∙ ap (Salvaged (length (cleanLog log))) g
+      ∙ sym (ap (λ (t : Bool). told t (listRoom <? length (changesFrom number log))) (le-ltb room (length log) h) ∙ ap (told false) (lacking listRoom l f))
 
   -- room for the records' changes, and behind them for the tail's
-  pub records-room : (list : List ℕ) (tail : ℕ) {counted : ℕ} → counted ≡ length (changesTo 0 log (recordsIn log)) → counted + tail ≤ length list
-      → length (changesTo number log (recordsIn log)) ≤ length list
-  records-room list tail c h = omega (arith, c, h, alike number log (recordsIn log))
+  pub records-room : (list : List ℕ) → length (changesFrom number log) ≤ length list → length (changesTo number log (recordsIn log)) ≤ length list
+  records-room list h = omega (arith, h, length-append (changesTo number log (recordsIn log)) (tailChange (number + recordsIn log) (shortTail log)))
 
-  pub tail-room : (list : List ℕ) {counted tail at : ℕ} {old new : List ℕ} → counted ≡ length (changesTo 0 log (recordsIn log)) → tail ≡ length (tailChange 0 (shortTail log))
-      → counted + tail ≤ length list → Wrote old 0 (entries (changesTo number log (recordsIn log))) new at → at + length (tailChange (number + recordsIn log) (shortTail log)) ≤ length list
-  tail-room list c t h w =
-      omega (arith, c, t, h, w .next-is, as-many (changesTo number log (recordsIn log)), alike number log (recordsIn log), tail-alike (shortTail log) (number + recordsIn log) 0)
+  pub tail-room : (list : List ℕ) {at : ℕ} {old new : List ℕ} → length (changesFrom number log) ≤ length list
+      → Wrote old 0 (entries (changesTo number log (recordsIn log))) new at → at + length (tailChange (number + recordsIn log) (shortTail log)) ≤ length list
+  tail-room list h w =
+      omega (arith, h, w .next-is, as-many (changesTo number log (recordsIn log)), length-append (changesTo number log (recordsIn log)) (tailChange (number + recordsIn log) (shortTail log)))
 
   pub list-whole : {old mid new : List ℕ} {i r : ℕ} → Wrote old 0 (entries (changesTo number log (recordsIn log))) mid i
       → Wrote mid i (entries (tailChange (number + recordsIn log) (shortTail log))) new r → Wrote old 0 (entries (changesFrom number log)) new r
@@ -172,3 +180,12 @@ module _ (number : ℕ) (log : List ℕ) where
 
   pub clean-whole : {old new : List ℕ} {r : ℕ} → Wrote old 0 (cleanLog log) new r → r ≡ length (cleanLog log)
   clean-whole w = w .next-is ∙ zero-add (length (cleanLog log))
+
+-- whether a list lacks room: not where it has more places than the log has records
+module _ (log : List ℕ) (room : ℕ) where
+  pub plenty : recordsIn log < room → false ≡ (room <? length (changesFrom 0 log))
+  plenty h = sym (le-ltb room (length (changesFrom 0 log)) (omega (arith, h, most 0 log)))
+
+  pub by-count : {counted tail : ℕ} → counted ≡ length (changesTo 0 log (recordsIn log)) → tail ≡ length (tailChange 0 (shortTail log))
+      → (room <? counted + tail) ≡ (room <? length (changesFrom 0 log))
+  by-count {counted} {tail} c t = ap (λ (n : ℕ). room <? n + tail) c ∙ ap (λ (n : ℕ). room <? length (changesTo 0 log (recordsIn log)) + n) t ∙ ap (λ (n : ℕ). room <? n) (sym (all 0 log))

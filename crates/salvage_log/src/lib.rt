@@ -2,6 +2,7 @@
 ghost use mathlib.Core.Path.{_≡_};
 ghost use Prim.Native.Nat.{_+_, _≤_, _<_};
 ghost use lib.ListN.{length};
+ghost use Rattle.rules.specs.Tests.{_<?_};
 ghost use Rattle.rules.specs.Log.{recordsIn};
 ghost use Rattle.rules.specs.Salvage.{cleanLog, changeBy, changesTo, tailChange, changesFrom, changes, salvagingFrom, salvaging, entries, outputAfter, listAfter};
 ghost use Rattle.text.specs.Wrote.{Wrote};
@@ -54,6 +55,19 @@ fn count(log: &[u8]) -> usize
     changes
 }
 
+// Whether a list with so much room cannot hold every change of a log. There is one at most for each record and one for the tail, so that most lists are large enough
+// for any log of that length; only for another the changes are counted.
+fn lacks_room(log: &[u8], room: usize) -> bool
+    ensures { λ r. ⌜ r ≡ (room <? length (changes (now (log .entry)))) ⌝ }
+{
+    let whole = log.len() / LOG_RECORD;
+    if whole < room {
+        return false;
+    }
+    let short = log.len() % LOG_RECORD != 0;
+    room < count(log) + tail_changes(short)
+}
+
 // The records of a log, where there is room for them and for their changes; the first has the number given.
 fn put_records(number: u64, log: &[u8], output: &mut [u8], list: &mut [u64]) -> Written
     requires { ⌜ (number + recordsIn (now log) < mostRecords) × (length (now log) ≤ length (now output)) ⌝ }
@@ -76,8 +90,8 @@ fn put_records(number: u64, log: &[u8], output: &mut [u8], list: &mut [u64]) -> 
     Written { length, changes }
 }
 
-// Salvages a log whose first record has the number given: 0, but where a log is read part by part. The changes are counted first, for nothing is written where the
-// list has no room for all of them.
+// Salvages a log whose first record has the number given: 0, but where a log is read part by part. The room is looked at first, for nothing is written where there is
+// too little of it.
 pub fn salvage_from(number: u64, log: &[u8], output: &mut [u8], list: &mut [u64]) -> Salvaging
     requires { ⌜ number + recordsIn (now log) < mostRecords ⌝ }
     ensures { λ r. ⌜ r ≡ salvagingFrom number (now (log .entry)) (length (now (output .entry))) (length (now (list .entry))) ⌝ }
@@ -87,11 +101,12 @@ pub fn salvage_from(number: u64, log: &[u8], output: &mut [u8], list: &mut [u64]
     if output.len() < log.len() {
         return Salvaging::OutputTooShort;
     }
-    let whole = log.len() / LOG_RECORD;
-    let short = log.len() % LOG_RECORD != 0;
-    if list.len() < count(log) + tail_changes(short) {
+    let lacks = lacks_room(log, list.len());
+    if lacks {
         return Salvaging::ListTooShort;
     }
+    let whole = log.len() / LOG_RECORD;
+    let short = log.len() % LOG_RECORD != 0;
     let written = put_records(number, log, output, list);
     let changes = salvage_writing::put_tail(list, written.changes, number + whole as u64, short);
     Salvaging::Salvaged {
