@@ -41,3 +41,5 @@ pub mod TripsKept
 pub mod Apart
 pub mod Alike
 pub mod Unseen
+-- T-11: nothing is staged with version 0.
+pub mod Versions

@@ -85,3 +85,5 @@ pub mod Compare
 pub mod TripsKept
 -- T-09: two modules. The cabinet stands above (Record.antt, Cabinet.antt), and demand 3 is of both; here is what one module has of the other.
 pub mod Apart
+-- T-11: no module is Staged with version 0.
+pub mod Versions
