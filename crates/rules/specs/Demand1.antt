@@ -17,7 +17,7 @@ use Rattle.rules.specs.Cabinet.{Result, callChecks, callResult, readingC
 use Rattle.rules.specs.declared.{Function.the-variants.Mask, Row.Row, Refusal.Refusal, Refusal.the-variants.{R, Status}, Verdict.the-variants.{Accepted, Refused}}
 use Rattle.rules.specs.declared.Reading.{Reading}
 
--- the refusal numbers of document 01, in its table's order, and R5 of document 02, T-09: these are given, each by some call, and no other is by a call: R4 is a
+-- the refusal numbers of document 01, in its table's order, but for status 6, which "leaves the table" (document 02, T-11), and R5 of T-09: these are given, each by some call, and no other is by a call: R4 is a
 -- reading's. When each is given, the checks say.
 abbrev pub refusalNumbers : List Refusal
 refusalNumbers =
@@ -27,7 +27,6 @@ refusalNumbers =
     ∷ R 3
     ∷ Status 1 0
     ∷ Status 3 0
-    ∷ Status 6 0
     ∷ Status 7 1
     ∷ Status 7 2
     ∷ Status 7 3
@@ -59,7 +58,6 @@ pub record GivenBySome (refusal : Refusal) : Type 0 where
 abbrev pub column : (status n : ℕ) → ℕ
 column status n =
     if status =? 1 || status =? 10 || status =? 11 then 4
-    else if status =? 6 then 12
     else if status =? 8 then 8
     else n
 
