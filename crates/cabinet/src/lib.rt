@@ -105,7 +105,12 @@ pub fn call_standing(
             Refusal::Status { status, ext } => {
                 let length = call_answers::status_length(status, row.answer);
                 call_answers::put_status(answer, status, ext, length);
-                moved_by(cabinet_record::left(status, s.own), s.contexts, verdict, length)
+                moved_by(
+                    cabinet_record::left(status, s.own),
+                    s.contexts,
+                    verdict,
+                    length,
+                )
             }
         },
     }

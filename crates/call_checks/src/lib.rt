@@ -122,7 +122,16 @@ pub fn judge(
     requires { ⌜ row ≡ rowOf index ⌝ }
     ensures { λ r. ⌜ r ≡ verdict (callRows s (now (area .entry)) named revision index (now (request .entry)) (now (answer .entry))) ⌝ }
 {
-    let gate = judge_gate(s.possible, area, named, revision, index, row, request, answer);
+    let gate = judge_gate(
+        s.possible,
+        area,
+        named,
+        revision,
+        index,
+        row,
+        request,
+        answer,
+    );
     match gate {
         Verdict::Refused(refusal) => Verdict::Refused(refusal),
         Verdict::Accepted => {
