@@ -6,7 +6,7 @@ use Prim.Native.Nat.{ℕ, _≤_}
 use native.Mathlib.Omega.{arith}
 use lib.{Dec.lit≤, IntN.ℤ, ListN.length}
 use borrow.Author.Tests.{not-false}
-use Rattle.rules.{specs.Tests.{if_then_else_, _=?_}, specs.Numbers.answerRoom, specs.Record.{possibleCabinet, deviceOf, otherOf, withDevice, Whole, wholeOf, standing}}
+use Rattle.rules.{specs.Tests.{if_then_else_, _=?_}, specs.Numbers.answerRoom, specs.With._with-contexts_, specs.Record.{possibleCabinet, deviceOf, otherOf, withDevice, Whole, wholeOf, standing}}
 use Rattle.rules.{specs.Refusals.{Check, verdict, tickChecks, eventChecks, statusLength, oneAttemptMore, recordLeft}, specs.Table.{rowOf, servedCheck, lengthCheck}}
 use Rattle.rules.{specs.Module.{callIn, checks, change}, specs.Cabinet.{Result, callChecks, outcome, happened, ticked, callResult}, specs.declared.Refusal.the-variants.{R, Status}}
 use Rattle.rules.{specs.declared.Verdict.Verdict, specs.declared.Verdict.the-variants.{Accepted, Refused}, specs.declared.Reply.Reply, specs.declared.Device.Device}
@@ -113,6 +113,17 @@ module _ (bytes area : List ℕ) where
 
   pub tick-keepable : {o : Outcome} {area′ answer′ : List ℕ} → Promised (happened (verdict (tickChecks at)) (ticked at) at) o area′ answer′ → Keepable (o .reply) bytes
   tick-keepable p = subst (λ (r : Reply). Keepable r bytes) (sym (p .reply-is)) (ticking _ refl)
+
+-- what an event of one module may count on, and the module in its place
+pub sized : {reply : Reply} {new : Cabinet} {named : ℕ} {bytes : List ℕ} → KeepableNamed reply new named bytes → Keepable reply bytes
+sized q = record { sized = λ f. q .around f .long; short = q .short }
+
+pub own-placed : (named : ℕ) (d : Device) (c : Cabinet) (contexts : ℕ) → d ≡ deviceOf named (withDevice named d c with-contexts contexts)
+own-placed named d c contexts = go (named =? 0)
+  where
+    go : (b : Bool) → d ≡ (if b then (if b then d else c .first) else (if b then c .second else d))
+    go true = refl
+    go false = refl
 
 -- the record that was decoded is the one whose result is promised
 pub of-decoded : (f : Cabinet → Result) {d e : Cabinet} {o : Outcome} {area′ answer′ : List ℕ} → d ≡ e → Promised (f d) o area′ answer′ → Promised (f e) o area′ answer′

@@ -6,8 +6,9 @@ use lib.IntN.{ℤ, pos, negℤ}
 use lib.ListN.{length}
 use Rattle.rules.specs.Tests.{if_then_else_, _=?_}
 use Rattle.rules.specs.Numbers.{answerRoom}
+use Rattle.rules.specs.Record.{deviceOf}
 use Rattle.rules.specs.Cabinet.{Result}
-use Rattle.rules.specs.declared.{Refusal.the-variants.{R, Status}, Verdict.Verdict, Verdict.the-variants.{Accepted, Refused}, Reply.Reply, Cabinet.Cabinet}
+use Rattle.rules.specs.declared.{Refusal.the-variants.{R, Status}, Verdict.Verdict, Verdict.the-variants.{Accepted, Refused}, Reply.Reply, Cabinet.Cabinet, Device.Device}
 use Rattle.cabinet_bytes.specs.Encoding.{cabinetSize, encodeCabinet, Around}
 
 -- R1 to R5 are -1 to -5
@@ -49,3 +50,9 @@ pub record Keepable (reply : Reply) (bytes : List ℕ) : Type 0 where
 pub record KeepableNamed (reply : Reply) (new : Cabinet) (named : ℕ) (bytes : List ℕ) : Type 0 where
   pub around : writes (reply .verdict) ≡ true → Around named new bytes
   pub short : reply .length ≤ answerRoom
+
+-- what is kept of an event of one module: the record's bytes, of every cabinet that has this record for the module and this number of contexts
+abbrev pub KeptNamed : Reply → (named : ℕ) → Device → (contexts : ℕ) (bytes : List ℕ) → ℤ → List ℕ → Type 0
+KeptNamed reply named d contexts bytes number bytes′ =
+    (c : Cabinet) → d ≡ deviceOf named c → contexts ≡ c .contexts → (writes (reply .verdict) ≡ true → Around named c bytes)
+    → Leaves (told reply) (keptBy (reply .verdict) c bytes) number bytes′

@@ -4,7 +4,7 @@
 use Prim.Native.Nat.{ℕ}
 use mathlib.Core.{Path._≡_, List.{List, _++_}, Bool.{Bool, _&&_}}
 use lib.ListN.{length, take, drop}
-use Rattle.rules.{specs.Tests.{if_then_else_, _=?_}, specs.Bytes.{le, numberAt, zeros, zeros?}, specs.Record.otherOf, specs.declared.Cabinet.Cabinet}
+use Rattle.rules.{specs.Tests.{if_then_else_, _=?_}, specs.Bytes.{le, numberAt, zeros, zeros?}, specs.Record.{deviceOf, otherOf}, specs.declared.{Cabinet.Cabinet, Device.Device}}
 use Rattle.device_bytes.specs.Encoding.{encodedSize, encodeOf, impossible, decodeOf}
 
 -- the bytes of a record
@@ -47,3 +47,7 @@ pub record Around (named : ℕ) (c : Cabinet) (s : List ℕ) : Type 0 where
   pub long : length s ≡ cabinetSize
   pub between : take 28 (drop 4 s) ≡ zeros 28
   pub other : moduleBytes (otherPlace named) s ≡ encodeOf (otherOf named c)
+
+-- What is written of one module over such bytes: those of every cabinet that has this record for the module and this number of contexts.
+abbrev pub Written : (named : ℕ) → Device → (contexts : ℕ) (s s′ : List ℕ) → Type 0
+Written named d contexts s s′ = (c : Cabinet) → d ≡ deviceOf named c → contexts ≡ c .contexts → Around named c s → s′ ≡ encodeCabinet c
