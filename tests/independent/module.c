@@ -1,4 +1,5 @@
-/* The module's rules, in the order of document 01, with health readings after the thresholds. */
+/* The modules' rules, in the order of document 01, with health readings after the thresholds. What
+ * one module shares with the other is in Start alone. */
 #include "module.h"
 
 #include "image.h"
@@ -9,6 +10,7 @@ enum {
     NOT_SERVED = 1,
     INVALID = 3,
     UNKNOWN = 6,
+    AREA_BUSY = 8,
     CONTEXTS_USED_UP = 8,
     WRONG_STATE = 10,
     WRONG_PASSPHRASE = 11
@@ -35,11 +37,13 @@ enum { SEND_HEAD = 12 };
 
 /* ---- The device record ---- */
 
-void device_fresh(struct device *device)
+void modules_fresh(struct cabinet *cabinet)
 {
-    memset(device, 0, sizeof *device);
-    device->phase = IDLE;
-    device->running = 1;
+    memset(cabinet, 0, sizeof *cabinet);
+    for (int i = 0; i < MODULES; i++) {
+        cabinet->modules[i].phase = IDLE;
+        cabinet->modules[i].running = 1;
+    }
 }
 
 /* What a temperature word stands for, in sixteenths of a degree: sign in bit 15, and 0 has two. */
@@ -59,11 +63,11 @@ uint8_t device_trips(const struct device *device)
     return (uint8_t)((spare | media << 1 | controller << 2) & device->enable);
 }
 
-bool device_possible(const struct device *device)
+bool device_possible(const struct device *device, uint32_t contexts)
 {
     if (device->phase > FAILED || device->enabled > 1 || device->locked > 1 || device->frozen > 1)
         return false;
-    if (device->phase != IDLE && device->contexts < 1)
+    if (device->current > contexts || (device->phase != IDLE && device->current < 1))
         return false;
     if (device->received > AREA_BYTES || (device->phase == IDLE && device->received != 0))
         return false;
@@ -88,10 +92,23 @@ bool device_possible(const struct device *device)
         && device->trips == device_trips(device);
 }
 
+/* Whether the area is this module's for now. */
+static bool has_area(const struct device *device)
+{
+    return device->phase == RECEIVING || device->phase == VERIFYING;
+}
+
+bool modules_possible(const struct cabinet *cabinet)
+{
+    return device_possible(&cabinet->modules[0], cabinet->contexts)
+        && device_possible(&cabinet->modules[1], cabinet->contexts)
+        && !(has_area(&cabinet->modules[0]) && has_area(&cabinet->modules[1]));
+}
+
 /* The current context is live in every phase but Idle. */
 static bool live(const struct device *device, uint32_t context)
 {
-    return device->phase != IDLE && context == device->contexts;
+    return device->phase != IDLE && context == device->current;
 }
 
 /* ---- Which function index at which revision ---- */
@@ -179,16 +196,19 @@ static uint32_t get_health(const struct device *device, uint8_t *answer)
     return DONE;
 }
 
-int32_t device_reading(struct device *device, const uint8_t *area, size_t area_len, uint8_t spare,
-                       uint16_t media, uint16_t controller)
+int32_t modules_reading(struct cabinet *cabinet, const uint8_t *area, size_t area_len,
+                        uint64_t module, uint8_t spare, uint16_t media, uint16_t controller)
 {
     (void)area;
     if (area_len != AREA_BYTES)
         return R2;
-    if (!device_possible(device))
+    if (module >= MODULES)
+        return R5;
+    if (!modules_possible(cabinet))
         return R3;
     if (spare > SPARE_MOST)
         return R4;
+    struct device *device = &cabinet->modules[module];
     device->read_spare = spare;
     device->read_media = media;
     device->read_controller = controller;
@@ -211,20 +231,26 @@ static uint32_t get_fw_info(const struct device *device, uint8_t *answer)
     return DONE;
 }
 
-static uint32_t start(struct device *device, uint8_t *answer)
+/* The one step of a module that looks at the other, and at what the two share. */
+static uint32_t start(struct cabinet *cabinet, uint64_t module, uint8_t *answer)
 {
-    if (device->phase == RECEIVING || device->phase == VERIFYING)
+    struct device *device = &cabinet->modules[module];
+
+    if (has_area(device))
         return SPECIFIC(1);
     if (device->phase == STAGED)
         return SPECIFIC(2);
-    if (device->contexts == 4294967295u)
+    if (has_area(&cabinet->modules[1 - module]))
+        return AREA_BUSY;
+    if (cabinet->contexts == 4294967295u)
         return CONTEXTS_USED_UP;
-    device->contexts++;
+    cabinet->contexts++;
+    device->current = cabinet->contexts;
     device->received = 0;
     device->phase = RECEIVING;
     device->fault = NO_FAULT;
     device->fault_record = 0;
-    put32(answer + 4, device->contexts);
+    put32(answer + 4, device->current);
     return DONE;
 }
 
@@ -328,14 +354,10 @@ struct image_check image_check(const uint8_t *image, size_t length)
     return check;
 }
 
-int32_t device_tick(struct device *device, const uint8_t *area, size_t area_len)
+static void tick(struct device *device, const uint8_t *area)
 {
-    if (area_len != AREA_BYTES)
-        return R2;
-    if (!device_possible(device))
-        return R3;
     if (device->phase != VERIFYING)
-        return 0;
+        return;
     device->ticks--;
     if (device->ticks == 0) {
         struct image_check check = image_check(area, device->received);
@@ -344,16 +366,30 @@ int32_t device_tick(struct device *device, const uint8_t *area, size_t area_len)
         device->fault = check.fault;
         device->fault_record = check.record;
     }
+}
+
+int32_t modules_tick(struct cabinet *cabinet, const uint8_t *area, size_t area_len)
+{
+    if (area_len != AREA_BYTES)
+        return R2;
+    if (!modules_possible(cabinet))
+        return R3;
+    tick(&cabinet->modules[0], area);
+    tick(&cabinet->modules[1], area);
     return 0;
 }
 
-int32_t device_power(struct device *device, const uint8_t *area, size_t area_len)
+int32_t modules_power(struct cabinet *cabinet, const uint8_t *area, size_t area_len,
+                      uint64_t module)
 {
     (void)area;
     if (area_len != AREA_BYTES)
         return R2;
-    if (!device_possible(device))
+    if (module >= MODULES)
+        return R5;
+    if (!modules_possible(cabinet))
         return R3;
+    struct device *device = &cabinet->modules[module];
     if (device->phase == STAGED)
         device->running = device->staged;
     device->phase = IDLE;
@@ -440,14 +476,16 @@ static uint32_t freeze(struct device *device)
 /* ---- A call ---- */
 
 /* A served function with a request of the right length; the answer's bytes are zero. */
-static uint32_t serve(struct device *device, uint8_t *area, uint64_t function,
+static uint32_t serve(struct cabinet *cabinet, uint64_t module, uint8_t *area, uint64_t function,
                       const uint8_t *request, size_t request_len, uint8_t *answer)
 {
+    struct device *device = &cabinet->modules[module];
+
     switch (function) {
     case GET_HEALTH: return get_health(device, answer);
     case GET_THRESHOLD: return get_threshold(device, answer);
     case GET_FW_INFO: return get_fw_info(device, answer);
-    case START: return start(device, answer);
+    case START: return start(cabinet, module, answer);
     case SEND: return send(device, area, request, request_len);
     case FINISH: return finish(device, request);
     case QUERY: return query(device, request, answer);
@@ -460,15 +498,17 @@ static uint32_t serve(struct device *device, uint8_t *area, uint64_t function,
     }
 }
 
-int32_t device_call(struct device *device, uint8_t *area, size_t area_len, uint64_t revision,
-                    uint64_t function, const uint8_t *request, size_t request_len,
-                    uint8_t *answer, size_t answer_len)
+int32_t modules_call(struct cabinet *cabinet, uint8_t *area, size_t area_len, uint64_t module,
+                     uint64_t revision, uint64_t function, const uint8_t *request,
+                     size_t request_len, uint8_t *answer, size_t answer_len)
 {
     if (answer_len < ANSWER_LEAST)
         return R1;
     if (area_len != AREA_BYTES)
         return R2;
-    if (!device_possible(device))
+    if (module >= MODULES)
+        return R5;
+    if (!modules_possible(cabinet))
         return R3;
     if (function == 0) {
         put32(answer, served_mask(revision));
@@ -482,6 +522,7 @@ int32_t device_call(struct device *device, uint8_t *area, size_t area_len, uint6
     size_t least = request_bytes(function);
     bool fits = function == SEND ? request_len >= least : request_len == least;
     memset(answer, 0, (size_t)length);
-    put32(answer, fits ? serve(device, area, function, request, request_len, answer) : INVALID);
+    put32(answer, fits ? serve(cabinet, module, area, function, request, request_len, answer)
+                       : INVALID);
     return length;
 }

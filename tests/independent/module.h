@@ -1,11 +1,15 @@
-/* One persistent memory module: its device record, and what a call, a tick, a
- * power cycle and a health reading do to it. "01" in a comment is the rules page, document 01. */
+/* The cabinet: two persistent memory modules, which share the staging area and the context
+ * numbers, and what a call, a tick, a power cycle and a health reading do to them. "01" in a
+ * comment is the rules page, document 01; the cabinet is document 02's, T-09. */
 #ifndef MODULE_H
 #define MODULE_H
 
 #include "bytes.h"
 
 enum phase { IDLE, RECEIVING, VERIFYING, STAGED, FAILED };
+
+/* Modules 0 and 1. */
+enum { MODULES = 2 };
 
 /* 01, "Numbers of this product". */
 enum {
@@ -24,13 +28,13 @@ enum {
 enum fault { NO_FAULT, SIZE_FAULT, NUMBER_FAULT, COUNT_FAULT, VERSION_FAULT, SUM_FAULT };
 
 /* The refusals that give no answer bytes. */
-enum { R1 = -1, R2 = -2, R3 = -3, R4 = -4 };
+enum { R1 = -1, R2 = -2, R3 = -3, R4 = -4, R5 = -5 };
 
-/* 01, "The device record". */
+/* 01, "The device record", of one module. */
 struct device {
     uint64_t running;    /* running version */
     uint64_t staged;     /* staged version */
-    uint32_t contexts;   /* contexts given out so far; the last is the current one */
+    uint32_t current;    /* its current context: the last one given to it, 0 before the first */
     uint32_t received;   /* bytes received */
     uint16_t enable;     /* bits 0 to 2: spare, media, controller */
     uint16_t media;      /* media temperature threshold */
@@ -51,14 +55,23 @@ struct device {
     uint8_t passphrase[PASSPHRASE_BYTES];
 };
 
-void device_fresh(struct device *device);
+struct cabinet {
+    uint32_t contexts; /* contexts given out so far, to whichever module */
+    struct device modules[MODULES];
+};
+
+/* Both modules fresh, and no context given out. */
+void modules_fresh(struct cabinet *cabinet);
 
 /* Which enabled alarms the reading trips; their bits are those of the enable bits. A possible
  * record keeps this byte. */
 uint8_t device_trips(const struct device *device);
 
-/* Any other record is refused with R3. */
-bool device_possible(const struct device *device);
+/* Whether this can be a module of a cabinet that has given out so many contexts. */
+bool device_possible(const struct device *device, uint32_t contexts);
+
+/* Any other cabinet is refused with R3. */
+bool modules_possible(const struct cabinet *cabinet);
 
 /* A good image has NO_FAULT and its version; any other the first fault, and the number of the
  * record that has it, 0 for the size. */
@@ -70,18 +83,21 @@ struct image_check {
 
 struct image_check image_check(const uint8_t *image, size_t length);
 
-/* The length of the answer written, or R1, R2 or R3 with nothing written.
+/* The length of the answer written, or R1, R2, R5 or R3 with nothing written.
  * The buffers must not overlap. */
-int32_t device_call(struct device *device, uint8_t *area, size_t area_len, uint64_t revision,
-                    uint64_t function, const uint8_t *request, size_t request_len,
-                    uint8_t *answer, size_t answer_len);
+int32_t modules_call(struct cabinet *cabinet, uint8_t *area, size_t area_len, uint64_t module,
+                     uint64_t revision, uint64_t function, const uint8_t *request,
+                     size_t request_len, uint8_t *answer, size_t answer_len);
 
-/* 0, or R2 or R3 with nothing written. */
-int32_t device_tick(struct device *device, const uint8_t *area, size_t area_len);
-int32_t device_power(struct device *device, const uint8_t *area, size_t area_len);
+/* 0, or R2 or R3 with nothing written. A tick reaches both modules. */
+int32_t modules_tick(struct cabinet *cabinet, const uint8_t *area, size_t area_len);
 
-/* 0, or R2, R3 or R4 with nothing written. */
-int32_t device_reading(struct device *device, const uint8_t *area, size_t area_len, uint8_t spare,
-                       uint16_t media, uint16_t controller);
+/* 0, or R2, R5 or R3 with nothing written. */
+int32_t modules_power(struct cabinet *cabinet, const uint8_t *area, size_t area_len,
+                      uint64_t module);
+
+/* 0, or R2, R5, R3 or R4 with nothing written. */
+int32_t modules_reading(struct cabinet *cabinet, const uint8_t *area, size_t area_len,
+                        uint64_t module, uint8_t spare, uint16_t media, uint16_t controller);
 
 #endif

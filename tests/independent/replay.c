@@ -1,4 +1,4 @@
-/* Replays call logs, each from a fresh module and an area of zeros.
+/* Replays call logs, each from two fresh modules and an area of zeros.
  *
  *    independent replay FILE..    the replay text of document 01
  *    independent answers FILE..   every answer's bytes, then the whole end state
@@ -24,7 +24,7 @@ enum text { REPLAY, ANSWERS, REPORT };
 struct replay {
     enum text text;
     uint64_t place;
-    struct device device;
+    struct cabinet cabinet;
     uint8_t area[AREA_BYTES];
     int32_t length; /* of the last call's answer */
     uint8_t answer[ANSWER_LEAST];
@@ -104,25 +104,29 @@ static enum kind kind_of(const uint8_t *record)
 {
     size_t length = get16(record + LENGTH_AT);
 
+    if (module_of(record) >= MODULES)
+        return BAD;
     switch (record[KIND_AT]) {
     case CALL:
-        if (record[HOST_AT] < 1 || record[HOST_AT] > HOSTS || length > REQUEST_MOST)
+        if (host_of(record) < 1 || host_of(record) > HOSTS || length > REQUEST_MOST)
             return BAD;
         return all_zero(record + REQUEST_AT + length, REQUEST_MOST - length) ? CALL : BAD;
-    case TICK:
+    case TICK: /* reaches both modules, and names none */
         return all_zero(record + 1, LOG_RECORD - 1) ? TICK : BAD;
     case POWER:
-        return all_zero(record + 1, LOG_RECORD - 1) ? POWER : BAD;
+        return host_of(record) == 0 && all_zero(record + REVISION_AT, LOG_RECORD - REVISION_AT)
+            ? POWER : BAD;
     case HEALTH:
-        return all_zero(record + 1, SPARE_AT - 1) && record[SPARE_AT] <= SPARE_MOST
+        return host_of(record) == 0 && all_zero(record + REVISION_AT, SPARE_AT - REVISION_AT)
+            && record[SPARE_AT] <= SPARE_MOST
             && all_zero(record + READING_END, LOG_RECORD - READING_END) ? HEALTH : BAD;
     default:
         return BAD;
     }
 }
 
-/* No R number can come: the buffers have the right sizes, and every step leaves a possible
- * record. There is no line for one, so stop if that is ever wrong. */
+/* No R number can come: the buffers have the right sizes, a module over 1 makes a record bad, and
+ * every step leaves a possible cabinet. There is no line for one, so stop if that is ever wrong. */
 static int32_t no_refusal(int32_t result)
 {
     if (result < 0)
@@ -138,19 +142,21 @@ static enum kind play(struct replay *replay, const uint8_t *record)
     switch (kind) {
     case CALL:
         replay->length = no_refusal(
-            device_call(&replay->device, replay->area, AREA_BYTES, get16(record + REVISION_AT),
-                        get16(record + FUNCTION_AT), record + REQUEST_AT,
-                        get16(record + LENGTH_AT), replay->answer, sizeof replay->answer));
+            modules_call(&replay->cabinet, replay->area, AREA_BYTES, module_of(record),
+                         get16(record + REVISION_AT), get16(record + FUNCTION_AT),
+                         record + REQUEST_AT, get16(record + LENGTH_AT), replay->answer,
+                         sizeof replay->answer));
         break;
     case TICK:
-        no_refusal(device_tick(&replay->device, replay->area, AREA_BYTES));
+        no_refusal(modules_tick(&replay->cabinet, replay->area, AREA_BYTES));
         break;
     case POWER:
-        no_refusal(device_power(&replay->device, replay->area, AREA_BYTES));
+        no_refusal(modules_power(&replay->cabinet, replay->area, AREA_BYTES, module_of(record)));
         break;
     case HEALTH:
-        no_refusal(device_reading(&replay->device, replay->area, AREA_BYTES, record[SPARE_AT],
-                                  get16(record + MEDIA_AT), get16(record + CONTROLLER_AT)));
+        no_refusal(modules_reading(&replay->cabinet, replay->area, AREA_BYTES, module_of(record),
+                                   record[SPARE_AT], get16(record + MEDIA_AT),
+                                   get16(record + CONTROLLER_AT)));
         break;
     case BAD:
         break;
@@ -202,7 +208,7 @@ static size_t count_of(const struct replay *replay, const uint8_t *record, enum 
     case CALL:
         if (get16(record + FUNCTION_AT) == 0)
             return FUNCTION_0;
-        return report_cell(record[HOST_AT], get16(replay->answer));
+        return report_cell(host_of(record), get16(replay->answer));
     case TICK:
         return TICKS;
     case POWER:
@@ -230,7 +236,7 @@ static void step(struct replay *replay, const uint8_t *record)
 static void begin(struct replay *replay)
 {
     replay->place = 0;
-    device_fresh(&replay->device);
+    modules_fresh(&replay->cabinet);
     memset(replay->area, 0, AREA_BYTES);
     if (replay->text == REPLAY)
         fputs("record kind status ext length\n", stdout);
@@ -248,14 +254,17 @@ static void tail(struct replay *replay)
         write_line(line, put_text(put_number(line, replay->place), " short"));
 }
 
-static void write_state(const struct device *device, const uint8_t *area)
+static void write_module(const struct cabinet *cabinet, unsigned module)
 {
+    const struct device *device = &cabinet->modules[module];
     const uint16_t fault[] = {device->fault, device->fault_record};
     const uint16_t reading[] = {device->read_spare, device->read_media, device->read_controller};
     char line[24];
 
+    write_field("module ", module);
     write_line(line, put_text(put_text(line, "phase "), phase_names[device->phase]));
-    write_field("contexts ", device->contexts);
+    write_field("contexts ", cabinet->contexts);
+    write_field("current ", device->current);
     write_field("received ", device->received);
     write_field("ticks ", device->ticks);
     write_field("running ", device->running);
@@ -272,16 +281,16 @@ static void write_state(const struct device *device, const uint8_t *area)
     write_fields("fault", fault, 2);
     write_fields("reading", reading, 3);
     write_field("trips ", device->trips);
-    write_bytes("area ", area, AREA_BYTES);
 }
 
-/* The replay's last line. */
-static void write_end(const struct device *device)
+/* The replay's last line of a module, with the contexts that both have been given. */
+static void write_end(const struct cabinet *cabinet, unsigned module)
 {
+    const struct device *device = &cabinet->modules[module];
     char line[48];
     char *at = put_text(put_text(line, "end "), phase_names[device->phase]);
 
-    at = put_number(put_text(at, " "), device->contexts);
+    at = put_number(put_text(at, " "), cabinet->contexts);
     if (device->phase == FAILED) {
         at = put_text(put_text(at, " "), fault_names[device->fault]);
         at = put_number(put_text(at, " "), device->fault_record);
@@ -294,10 +303,13 @@ static const char *end(struct replay *replay)
 {
     switch (replay->text) {
     case REPLAY:
-        write_end(&replay->device);
+        for (unsigned module = 0; module < MODULES; module++)
+            write_end(&replay->cabinet, module);
         break;
     case ANSWERS:
-        write_state(&replay->device, replay->area);
+        for (unsigned module = 0; module < MODULES; module++)
+            write_module(&replay->cabinet, module);
+        write_bytes("area ", replay->area, AREA_BYTES);
         break;
     case REPORT:
         if (!report_add(replay->report, replay->counts))
