@@ -1,4 +1,4 @@
-/* Two slots for the record's 128 bytes and a selector, in 257 bytes. */
+/* Two slots for the record's 288 bytes and a selector, in 577 bytes. */
 #ifndef SLOTS_H
 #define SLOTS_H
 
@@ -6,7 +6,7 @@
 
 enum { SLOTS_BYTES = 1 + 2 * RECORD_BYTES, SLOTS_REFUSED = -1 };
 
-/* 0; a fresh module's record in slot 0, which is selected, and zeros in slot 1. */
+/* 0; a fresh cabinet's record in slot 0, which is selected, and zeros in slot 1. */
 int32_t independent_slots_fresh(uint8_t *slots, size_t slots_len);
 
 /* The number of the slot written, the one that is not selected. */
