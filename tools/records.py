@@ -1,7 +1,8 @@
 """Log records, requests and firmware images as bytes, by document 01 ("the page").
 
-A log record has 544 bytes: kind, host, revision (2), function (2), request length (2), request padded with zeros
-to 536. This module only writes and reads bytes; what the module behind the calls answers is no matter of it.
+A log record has 544 bytes: kind, module and host, revision (2), function (2), request length (2), request padded with zeros
+to 536. The second byte names the module in its high four bits and the host in its low four, which are zero where no host calls.
+This file only writes and reads bytes; what the modules behind the calls answer is no matter of it.
 """
 
 RECORD = 544
@@ -12,6 +13,8 @@ IMAGE_RECORD = 128
 IMAGE_MOST = 128
 IMAGE_PART = 112
 PASSPHRASE = 32
+MODULES = 2
+HOSTS = 4
 
 CALL, TICK, POWER, READING = 1, 2, 3, 4
 READING_AT, READING_END = 8, 13     # its five bytes: spare, media (2), controller (2)
@@ -45,18 +48,27 @@ def number_at(data, at, width):
 
 # ---- Records ----
 
-def call(host, function, request=b"", revision=2, length=None):
+def call(host, function, request=b"", revision=2, length=None, module=0):
     """A call's record. A request length that is not the request's own makes a bad record, or a shorter request."""
-    head = bytes([CALL, host]) + le(revision, 2) + le(function, 2) + le(len(request) if length is None else length, 2)
+    head = bytes([CALL, module << 4 | host]) + le(revision, 2) + le(function, 2) + le(len(request) if length is None else length, 2)
     return (head + request).ljust(RECORD, b"\0")
 
 
-def event(kind):
-    return bytes([kind]).ljust(RECORD, b"\0")
+def event(kind, module=0):
+    return bytes([kind, module << 4]).ljust(RECORD, b"\0")
 
 
-def reading(spare, media, controller):
-    return event(READING)[:READING_AT] + bytes([spare]) + le(media, 2) + le(controller, 2) + bytes(RECORD - READING_END)
+def reading(spare, media, controller, module=0):
+    head = event(READING, module)[:READING_AT]
+    return head + bytes([spare]) + le(media, 2) + le(controller, 2) + bytes(RECORD - READING_END)
+
+
+def module_of(record):
+    return record[1] >> 4
+
+
+def host_of(record):
+    return record[1] & 15
 
 
 def poke(record, at, byte):
@@ -65,13 +77,17 @@ def poke(record, at, byte):
 
 def why_bad(record):
     """Why the page calls this record bad, or None."""
-    kind, host, length = record[0], record[1], number_at(record, 6, 2)
-    if kind in (TICK, POWER, READING):
-        return bare_fault(record)
-    if kind != CALL:
+    kind, module, host, length = record[0], module_of(record), host_of(record), number_at(record, 6, 2)
+    if kind not in (CALL, TICK, POWER, READING):
         return f"kind {kind} is not 1 (call), 2 (tick), 3 (power) or 4 (reading)"
-    if not 1 <= host <= 4:
-        return f"host {host} is not 1 to 4"
+    if kind == TICK:
+        return own_fault(record, "tick", 1, ())
+    if module >= MODULES:
+        return f"module {module} is not 0 or 1"
+    if kind != CALL:
+        return event_fault(record)
+    if not 1 <= host <= HOSTS:
+        return f"host {host} is not 1 to {HOSTS}"
     if length > REQUEST_MOST:
         return f"request length {length} is over {REQUEST_MOST}"
     for at in range(REQUEST_AT + length, RECORD):
@@ -80,14 +96,23 @@ def why_bad(record):
     return None
 
 
-def bare_fault(record):
-    what, own = {TICK: ("tick", ()), POWER: ("power cycle", ()), READING: ("reading", range(READING_AT, READING_END))}[record[0]]
-    for at in range(1, RECORD):
+def own_fault(record, what, first, own):
+    """Of the bytes from the first on all are zero, but for the record's own."""
+    for at in range(first, RECORD):
         if record[at] and at not in own:
             return f"byte {at} of a {what} is {record[at]} and not zero"
-    if record[0] == READING and record[READING_AT] > SPARE_MOST:
-        return f"spare {record[READING_AT]} is over {SPARE_MOST}"
     return None
+
+
+def event_fault(record):
+    """A power cycle or a reading, of a module that there is."""
+    what, own = ("power cycle", ()) if record[0] == POWER else ("reading", range(READING_AT, READING_END))
+    if host_of(record):
+        return f"a {what} has host {host_of(record)} and not zero"
+    fault = own_fault(record, what, 2, own)
+    if fault is None and record[0] == READING and record[READING_AT] > SPARE_MOST:
+        return f"spare {record[READING_AT]} is over {SPARE_MOST}"
+    return fault
 
 
 # ---- Requests ----
