@@ -38,6 +38,7 @@ PROGRAMS = {
         "functions", "lengths", "mask", "health", "trips", "thresholds", "starts", "queries", "aborts", "frozen", "ten-wrong",     # answers
         "empty", "area-stays", "ticks", "three-hosts", "edge-of-area",      # ends: idle, receiving, verifying, staged, failed
         "fault-size", "fault-number", "fault-count", "fault-version", "fault-sum", "fault-over", "fault-power",     # faults
+        "modules-beside", "modules-ticks", "modules-power", "modules-contexts", "modules-area", "modules-bad",     # both modules
         "bad-records", "page")),                                            # lines: bad, short
 }
 

@@ -1,14 +1,16 @@
 """The story language: a few readable lines that make a log. tests/stories/README.md says it for people.
 
     title: SENTENCE                 the first line of every story
-    tick [N]                        N ticks, 1 if not said
+    tick [N]                        N ticks, 1 if not said, for both modules
     power                           a power cycle
     reading [FIELD VALUE]..         a health reading: spare N (0 to 100), media N, controller N
     [host H] CALL [FIELD VALUE]..   a call by host H, 1 to 4; host 1 if not said
+    module M STEP                   one of these three of module M, 0 or 1; module 0 if not said
     bad FORM                        a bad record
     raw BYTES                       a record of these bytes, filled with zeros to 544
     short N                         a tail: the first N bytes of a Start; no record comes after it
-    end PHASE CONTEXTS              what the replay must end with; the last line, and it may be left out. In Failed the image's
+    end PHASE CONTEXTS              what the replay must end with, in the story's last lines: module 0's, then module 1's. Both may be
+                                    left out, and the second where no step is module 1's: it is then idle. In Failed the image's
                                     first fault comes behind it, size, number, count, version or sum, and its record's number
 
 The line of a call or a raw record may end with what must come of it: => STATUS, => STATUS/EXTENDED, => answer BYTES or
@@ -39,8 +41,9 @@ zero-version (in all records, or at one) or bad-sum. But for bad-sum the sums ar
 one is: and KIND, and and-at I (its record, the first if not said), KIND being any of them but bad-size.
 Or it is: image made version N payload BYTES, what is made from a payload of up to 14336 bytes, cut into as many records as it takes.
 
-FORM is kind N, host N, length N or padding [byte B], on what is else a Start by host 1; or tick [byte B], power [byte B],
-reading [byte B] or reading spare N. bad, raw and reading take times N. A line makes at most 100000 records.
+FORM is kind N, host N (the whole byte, the module's bits too), module N, length N or padding [byte B], on what is else a Start by
+host 1; or tick [byte B], power [byte B], reading [byte B] or reading spare N. Each but host takes module N, 0 to 15, of which any is
+bad in a tick, and from 2 on everywhere. bad, raw and reading take times N. A line makes at most 100000 records.
 """
 import re
 
@@ -78,9 +81,10 @@ CALLS = {
     "freeze": (records.FREEZE, {}),
     "call": (None, {"function": (0, HALF), "request": "bytes"}),
 }
-BAD = {"kind": {"kind": (0, BYTE)}, "host": {"host": (0, BYTE)}, "length": {"length": (0, HALF)},
-       "padding": {"byte": (8, records.RECORD - 1)}, "tick": {"byte": (1, records.RECORD - 1)},
-       "power": {"byte": (1, records.RECORD - 1)}, "reading": {"byte": (1, records.RECORD - 1), "spare": (0, BYTE)}}
+MODULE = {"module": (0, 15)}
+BAD = {"kind": {"kind": (0, BYTE), **MODULE}, "host": {"host": (0, BYTE)}, "module": MODULE, "length": {"length": (0, HALF), **MODULE},
+       "padding": {"byte": (8, records.RECORD - 1), **MODULE}, "tick": {"byte": (1, records.RECORD - 1), **MODULE},
+       "power": {"byte": (1, records.RECORD - 1), **MODULE}, "reading": {"byte": (1, records.RECORD - 1), "spare": (0, BYTE), **MODULE}}
 READING = {"spare": (0, records.SPARE_MOST), "media": (0, HALF), "controller": (0, HALF)}
 IMAGES = {"good": None, "made": None, "bad-size": "size", "bad-number": "number", "bad-count": "count", "bad-version": "version",
           "zero-version": "zero-version", "bad-sum": "sum"}
@@ -95,14 +99,14 @@ STATUS = re.compile(r"(\d+)(?:/(\d+))?$")
 
 class Story:
     """A story's title, its log, and what it says of the replay: for a record's number the line of the story that
-    made it, and (status, extended number), an answer's bytes, "bad", or None; and the last line, or None."""
+    made it, and (status, extended number), an answer's bytes, "bad", or None; and the last lines, of both modules or of none."""
 
     def __init__(self):
         self.title = None
         self.log = b""
         self.lines = []
         self.answers = []
-        self.end = None
+        self.ends = []
 
 
 class StoryError(Exception):
@@ -300,7 +304,7 @@ def repeated(made, fields):
     return made * times
 
 
-def call_step(host, verb, words):
+def call_step(module, host, verb, words):
     function, types = CALLS[verb]
     fields = fields_of(words, {**types, **EVERY_CALL})
     if verb == "call":
@@ -312,7 +316,7 @@ def call_step(host, verb, words):
         if "bytes" in fields:
             request = request[:fields["bytes"]].ljust(fields["bytes"], b"\0")
         at_most(request, records.REQUEST_MOST, "the request")
-        made.append(records.call(host, function, request, fields.get("revision", 2)))
+        made.append(records.call(host, function, request, fields.get("revision", 2), module=module))
     return repeated(made, fields)
 
 
@@ -320,30 +324,28 @@ def bad_step(words):
     if not words or words[0] not in BAD:
         raise Wrong(f"bad is one of: {', '.join(BAD)}")
     form = words[0]
-    rest = words if form in ("kind", "host", "length") else words[1:]
+    rest = words if form in ("kind", "host", "module", "length") else words[1:]
     fields = fields_of(rest, {**BAD[form], **TIMES})
-    record = records.call(1, records.START)
+    module = fields.get("module", 0)
+    record = records.call(1, records.START, length=fields.get("length"), module=module)
+    if form in ("tick", "power", "reading"):
+        record = records.event({"tick": records.TICK, "power": records.POWER, "reading": records.READING}[form], module)
     if form == "kind":
         record = records.poke(record, 0, fields["kind"])
-    elif form == "host":
+    if form == "host":
         record = records.poke(record, 1, fields["host"])
-    elif form == "length":
-        record = records.call(1, records.START, length=fields["length"])
-    else:
-        if form != "padding":
-            record = records.event({"tick": records.TICK, "power": records.POWER, "reading": records.READING}[form])
-        if "spare" in fields:
-            record = records.poke(record, records.READING_AT, fields["spare"])
-        if "spare" not in fields or "byte" in fields:
-            record = records.poke(record, fields.get("byte", records.RECORD - 1), 1)
+    if "spare" in fields:
+        record = records.poke(record, records.READING_AT, fields["spare"])
+    if "byte" in fields or records.why_bad(record) is None and form in ("padding", "tick", "power", "reading"):
+        record = records.poke(record, fields.get("byte", records.RECORD - 1), 1)
     if records.why_bad(record) is None:
         raise Wrong(f"{' '.join(words)} is not bad")
     return repeated([record], fields)
 
 
-def reading_step(words):
+def reading_step(module, words):
     fields = fields_of(words, {**READING, **TIMES})
-    return repeated([records.reading(*(fields.get(name, 0) for name in READING))], fields)
+    return repeated([records.reading(*(fields.get(name, 0) for name in READING), module=module)], fields)
 
 
 def raw_step(words):
@@ -371,32 +373,42 @@ def expected(words):
 def step(words):
     """The records of one line, and what the line says of their answers."""
     verb, rest = words[0], words[1:]
-    if "=>" in rest and verb not in ("tick", "power", "reading", "bad", "short", "end"):
+    named = rest[1] if verb == "module" and len(rest) > 1 else verb
+    if "=>" in rest and named not in ("tick", "power", "reading", "bad", "short", "end"):
         at = rest.index("=>")
         return step([verb] + rest[:at])[0], expected(rest[at + 1:])
     if verb == "tick":
         if len(rest) > 1:
             raise Wrong("tick takes one number")
         return [records.event(records.TICK)] * (a_number(rest[0], "tick", 1, 100000) if rest else 1), None
-    if verb == "power":
-        if rest:
-            raise Wrong("power stands alone on its line")
-        return [records.event(records.POWER)], None
-    if verb == "reading":
-        return reading_step(rest), None
     if verb == "bad":
         return bad_step(rest), "bad"
     if verb == "raw":
         return raw_step(rest), None
+    if verb != "module":
+        return module_step(0, verb, rest), None
+    if len(rest) < 2:
+        raise Wrong("module wants its number, 0 or 1, and a call, power or reading")
+    return module_step(a_number(rest[0], "module", 0, records.MODULES - 1), rest[1], rest[2:]), None
+
+
+def module_step(module, verb, rest):
+    """The records of a line that is one module's."""
+    if verb == "power":
+        if rest:
+            raise Wrong("nothing comes behind power")
+        return [records.event(records.POWER, module)]
+    if verb == "reading":
+        return reading_step(module, rest)
     host = 1
     if verb == "host":
         if len(rest) < 2:
             raise Wrong("host wants its number, 1 to 4, and a call")
-        host = a_number(rest[0], "host", 1, 4)
+        host = a_number(rest[0], "host", 1, records.HOSTS)
         verb, rest = rest[1], rest[2:]
     if verb not in CALLS:
-        raise Wrong(f"there is no step '{verb}'; there are: tick, power, reading, bad, raw, short, end, host and {', '.join(CALLS)}")
-    return call_step(host, verb, rest), None
+        raise Wrong(f"there is no step '{verb}'; there are: tick, power, reading, bad, raw, short, end, module, host and {', '.join(CALLS)}")
+    return call_step(module, host, verb, rest)
 
 
 def short_tail(words):
@@ -418,9 +430,17 @@ def end_line(words):
     return line
 
 
+def both_ends(story, names_module_1):
+    """The last lines of both modules, where the story says one of them."""
+    if len(story.ends) == 1:
+        if names_module_1:
+            raise Wrong("module 1 has a step, and so an end: the second")
+        story.ends.append(f"end idle {story.ends[0].split()[2]}")
+
+
 def tell(text):
     """The story that the text tells."""
-    story, made, tail = Story(), [], b""
+    story, made, tail, number, names_module_1 = Story(), [], b"", 1, False
     for number, line in enumerate(text.splitlines(), 1):
         try:
             if story.title is None and line.strip() and not line.lstrip().startswith("#"):
@@ -431,20 +451,25 @@ def tell(text):
             words = words_of(line)
             if not words:
                 continue
-            if story.end or (tail and words[0] != "end"):
-                raise Wrong("no record comes after short, and nothing after end")
+            if len(story.ends) == records.MODULES or (tail or story.ends) and words[0] != "end":
+                raise Wrong("no record comes after short, and nothing after end but module 1's")
             if words[0] == "short":
                 tail = short_tail(words)
             elif words[0] == "end":
-                story.end = end_line(words)
+                story.ends.append(end_line(words))
             else:
                 more, answer = step(words)
                 made += more
                 story.lines += [number] * len(more)
                 story.answers += [answer] * len(more)
+                names_module_1 |= words[:2] == ["module", "1"]
         except Wrong as wrong:
             raise StoryError(number, str(wrong)) from None
     if story.title is None:
         raise StoryError(1, "the story has no title")
+    try:
+        both_ends(story, names_module_1)
+    except Wrong as wrong:
+        raise StoryError(number, str(wrong)) from None
     story.log = b"".join(made) + tail
     return story

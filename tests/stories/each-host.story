@@ -1,12 +1,12 @@
 title: every host gets every status that a log can reach, each another number of times, so that no two counts of the report are alike
 
-# What the report over this log alone must say, by hand. Status 6 and 8 are beyond any log, and 2, 4, 5 and 9 are never given.
+# What the report over this log alone must say, by hand. Status 6 is beyond any log, and 2, 4, 5 and 9 are never given.
 #
-#   status      0  1 2  3 4 5 6  7 8 9 10 11
-#   host 1     22 17 0 13 0 0 0  9 0 0  5  1
-#   host 2     21 18 0 14 0 0 0 10 0 0  6  2
-#   host 3     23 19 0 15 0 0 0 11 0 0  7  3
-#   host 4     24 20 0 16 0 0 0 12 0 0  8  4
+#   status      0  1 2  3 4 5 6  7  8 9 10 11
+#   host 1     22 17 0 13 0 0 0  9 30 0  5  1
+#   host 2     21 18 0 14 0 0 0 10 31 0  6  2
+#   host 3     23 19 0 15 0 0 0 11 32 0  7  3
+#   host 4     24 20 0 16 0 0 0 12 33 0  8  4
 #   function 0 25, ticks 26, power 27, readings 29, bad 28, short 1
 
 # 10: nothing is enabled, so there is nothing to unlock.
@@ -40,7 +40,13 @@ host 4 start revision 3 times 20                => 1
 host 1 info times 20                            => 0
 host 2 get-threshold times 21                   => 0
 host 3 get-threshold revision 1 times 23        => 0
-host 4 info times 24                            => 0
+host 4 info times 23                            => 0
+# 8: module 1, which host 4 has started, has the area. Its 24th is this Start.
+module 1 host 4 start                           => 0
+host 1 start times 30                           => 8
+host 2 start times 31                           => 8
+host 3 start times 32                           => 8
+host 4 start times 33                           => 8
 # Function 0 has no status, whoever asks and at whatever revision.
 host 1 mask times 10                            => answer 07 f0 fb 00
 host 2 mask revision 1 times 8                  => answer 07 00 00 00
@@ -56,4 +62,5 @@ raw 01 02 02 00 0d 00*538 01 times 7            => bad
 raw 01 03 02 00 0d 00 19 02 times 7             => bad
 raw 01 04 02 00 0d 00 ff ff times 7             => bad
 short 543
-end idle 0
+end idle 1
+end receiving 1
