@@ -1,8 +1,9 @@
 """Random logs that lead deep: made(SEED, N) is log N of a seed, always the same; pair(SEED, N) is it and a second log to lay beside it.
 
-Whole transfers of 1 to 128 records in odd pieces, good, damaged and damaged twice, which the end names; hosts with right, old
-and guessed contexts; 7, 8 and 9 ticks; power cycles in between; passphrases up to and past the limit; freezes; thresholds and
-readings on both sides of them; reserved bits; bad and short records.
+Of both modules: whole transfers of 1 to 128 records in odd pieces, good, damaged and damaged twice, which the end names; hosts
+with right, old and guessed contexts, and with the other module's; Starts while the other module has the area; 7, 8 and 9 ticks;
+power cycles in between; passphrases up to and past the limit; freezes; thresholds and readings on both sides of them; reserved
+bits; bad and short records.
 """
 import random
 
@@ -12,17 +13,29 @@ SENDS_MOST = 220        # in one transfer
 LAST = 0xFFFFFFFF
 
 
-class Maker:
-    """Makes one log. It keeps a rough idea of the module's state to aim with; no answer is judged by it."""
+class Module:
+    """A rough idea of one module's state, to aim with."""
 
-    def __init__(self, chance):
-        self.chance = chance
-        self.log = []
-        self.phase, self.contexts, self.received, self.ticks = "idle", 0, 0, 0
+    def __init__(self):
+        self.phase, self.current, self.received, self.ticks = "idle", 0, 0, 0
         self.sent, self.good = b"", None
         self.enabled = self.locked = self.frozen = False
         self.wrong = 0
         self.secret = b""
+
+    def has_area(self):
+        return self.phase in ("receiving", "verifying")
+
+
+class Maker:
+    """Makes one log. It keeps a rough idea of the modules' state to aim with; no answer is judged by it."""
+
+    def __init__(self, chance):
+        self.chance = chance
+        self.log = []
+        self.modules = [Module() for _ in range(records.MODULES)]
+        self.own = 0            # the module whose steps come
+        self.contexts = 0       # given out by both
         self.secrets = [b"", b"alpha", b"beta", b"\xff" * 32, bytes(31) + b"\1", self.some_bytes(32)]
 
     def some_bytes(self, length):
@@ -34,52 +47,77 @@ class Maker:
     def pick(self, *choices):
         return self.chance.choice(choices)
 
+    # ---- Modules ----
+
+    @property
+    def now(self):
+        return self.modules[self.own]
+
+    @property
+    def beside(self):
+        return self.modules[1 - self.own]
+
+    def of_other(self, step):
+        """A step of the other module."""
+        self.own = 1 - self.own
+        step()
+        self.own = 1 - self.own
+
     # ---- Steps ----
 
     def call(self, host, function, request=b"", revision=2):
-        self.log.append(records.call(host, function, request, revision))
+        self.log.append(records.call(host, function, request, revision, module=self.own))
 
     def start(self, host):
         self.call(host, records.START)
-        if self.phase in ("idle", "failed"):
-            self.phase, self.received, self.sent = "receiving", 0, b""
+        now = self.now
+        if now.phase in ("idle", "failed") and not self.beside.has_area():
             self.contexts += 1
+            now.phase, now.received, now.sent, now.current = "receiving", 0, b"", self.contexts
 
     def send(self, host, context, offset, piece, length=None):
         self.call(host, records.SEND, records.send(context, offset, piece, length))
-        if (self.phase, context, offset) == ("receiving", self.contexts, self.received) and length in (None, len(piece)) \
+        now = self.now
+        if (now.phase, context, offset) == ("receiving", now.current, now.received) and length in (None, len(piece)) \
                 and 1 <= len(piece) <= 512 and offset + len(piece) <= records.AREA:
-            self.received += len(piece)
-            self.sent += piece
+            now.received += len(piece)
+            now.sent += piece
 
     def finish(self, host, context, flag=0):
         reserved = self.pick(self.some_bytes(3), (1 << self.chance.randrange(24)).to_bytes(3, "little")) if self.one_in(12) else b""
         self.call(host, records.FINISH, records.finish(context, flag, reserved))
-        if self.phase == "receiving" and context == self.contexts and not any(reserved):
+        now = self.now
+        if now.phase == "receiving" and context == now.current and not any(reserved):
             if flag == 0:
-                self.phase, self.ticks = "verifying", 8
+                now.phase, now.ticks = "verifying", 8
             elif flag == 1:
-                self.phase, self.received = "idle", 0
+                now.phase, now.received = "idle", 0
 
     def tick(self, count=1):
         for _ in range(count):
             self.log.append(records.event(records.TICK))
-            if self.phase == "verifying":
-                self.ticks -= 1
-                if self.ticks == 0:
-                    self.phase = "staged" if self.sent == self.good else "failed"
+            for module in self.modules:
+                if module.phase == "verifying":
+                    module.ticks -= 1
+                    if module.ticks == 0:
+                        module.phase = "staged" if module.sent == module.good else "failed"
 
     def power(self):
-        self.log.append(records.event(records.POWER))
-        self.phase, self.received, self.frozen, self.wrong = "idle", 0, False, 0
-        self.locked = self.enabled
+        self.log.append(records.event(records.POWER, self.own))
+        now = self.now
+        now.phase, now.received, now.frozen, now.wrong = "idle", 0, False, 0
+        now.locked = now.enabled
+
+    def reading(self, spare, media, controller):
+        self.log.append(records.reading(spare, media, controller, self.own))
 
     # ---- Contexts and hosts ----
 
     def context(self):
-        """Right, old, to come, or guessed."""
-        return self.pick(self.contexts, self.contexts, self.contexts, max(0, self.contexts - 1), self.contexts + 1, 0, 1,
-                         self.chance.randrange(self.contexts + 3), self.contexts | 256, self.contexts | 1 << 24, LAST)
+        """Right, old, the other module's, to come, or guessed."""
+        current = self.now.current
+        return self.pick(current, current, current, max(0, current - 1), current + 1, self.contexts, self.contexts + 1, self.beside.current,
+                         0, 1, self.chance.randrange(self.contexts + 3), current | 256, current | 1 << 24, LAST)
 
     def host(self):
         return self.pick(1, 1, 1, 2, 2, 3, 3, 4)
@@ -87,23 +125,31 @@ class Maker:
     # ---- What comes in between ----
 
     def stray_send(self):
-        offset = self.pick(self.received, self.received, 0, self.received + 1, max(0, self.received - 1), 16383, 16384, LAST,
+        received = self.now.received
+        offset = self.pick(received, received, 0, received + 1, max(0, received - 1), 16383, 16384, LAST,
                            self.chance.randrange(records.AREA))
         size = self.pick(0, 1, 1, 2, 3, 16, 511, 512, 513, 524, self.chance.randrange(1, 513))
         piece = self.some_bytes(size)
         length = self.pick(None, None, None, None, size + 1, max(0, size - 1), size + 256, size + 65536, LAST)
-        context = self.pick(self.context(), self.contexts + 1, max(0, self.contexts - 1))
+        context = self.pick(self.context(), self.contexts + 1, max(0, self.now.current - 1), self.beside.current)
         self.send(self.host(), context, offset, piece, length)
 
     def between(self):
-        kind = self.chance.randrange(24)
+        """Something that is no part of what goes on, of the same module or of the other."""
+        if self.one_in(3):
+            self.of_other(self.stray)
+        else:
+            self.stray()
+
+    def stray(self):
+        kind = self.chance.randrange(25)
         host = self.host()
         if kind < 4:
             self.start(host)
         elif kind < 8:
             self.stray_send()
         elif kind < 10:
-            stale = self.pick(max(0, self.contexts - 1), self.contexts + 1, 0, LAST)
+            stale = self.pick(max(0, self.now.current - 1), self.contexts + 1, self.beside.current, 0, LAST)
             self.finish(host, stale, self.pick(0, 1))
         elif kind == 10:
             self.finish(host, self.context(), self.pick(2, 3, 128, 255))
@@ -119,6 +165,8 @@ class Maker:
             self.bad()
         elif kind == 20:
             self.passphrase_step()
+        elif kind == 21 and not self.now.has_area():
+            self.power()
         else:
             self.noise()
 
@@ -144,18 +192,30 @@ class Maker:
             if fault and self.one_in(2):
                 second, second_at = self.chance.choice(records.FAULTS[1:]), self.pick(0, count - 1, self.chance.randrange(count))
         whole = records.image(count, version, payload, fault, at, size, second, second_at)
-        self.good = whole if fault is None else None
+        self.now.good = whole if fault is None else None
         if fault is None and count > 1 and self.one_in(12):
             whole = whole[:128 * self.chance.randrange(1, count)]      # fewer records than they say
         return whole
 
+    def free_area(self):
+        """Most often the other module gives up the area."""
+        if self.beside.has_area() and not self.one_in(6):
+            self.of_other(self.pick(self.power, self.power, self.give_up))
+
+    def give_up(self):
+        """What a host can do about a transfer that goes on: an abort, or to wait for its last tick."""
+        self.finish(self.host(), self.now.current, 1)
+        if self.now.phase == "verifying":
+            self.tick(self.now.ticks)
+
     def failing(self):
         """A transfer up to its last tick, most often of a damaged image, for a log to end with."""
         self.power()
+        self.free_area()
         self.start(self.host())
         for offset, piece in records.pieces(self.image(damaged=True), [512]):
-            self.send(self.host(), self.contexts, offset, piece)
-        self.finish(self.host(), self.contexts)
+            self.send(self.host(), self.now.current, offset, piece)
+        self.finish(self.host(), self.now.current)
         self.tick(8)
 
     def sizes(self, length):
@@ -171,19 +231,18 @@ class Maker:
 
     def transfer(self):
         host = self.host()
-        if self.phase == "staged" and not self.one_in(6):
+        if self.now.phase == "staged" and not self.one_in(6):
             self.power()
-        if self.phase in ("receiving", "verifying") and not self.one_in(6):
-            self.finish(host, self.contexts, 1)
-            if self.phase == "verifying":
-                self.tick(self.ticks)
-                if self.phase == "staged":
-                    self.power()
+        if self.now.has_area() and not self.one_in(6):
+            self.give_up()
+            if self.now.phase == "staged":
+                self.power()
+        self.free_area()
         whole = self.image()
         self.start(host)
-        if self.phase != "receiving":
+        if self.now.phase != "receiving":
             return
-        context = self.contexts
+        context = self.now.current
         crowd = self.pick(4, 8, 20, 1000)
         ending = self.chance.randrange(30)
         stop = self.chance.randrange(len(whole) + 1) if ending < 4 else len(whole)
@@ -229,37 +288,37 @@ class Maker:
         current, new = records.passphrase(current), records.passphrase(new)
         request = current + new if function == records.SET_PASSPHRASE else current
         self.call(self.host(), function, request)
-        right = current == records.passphrase(self.secret)
-        if self.frozen or self.wrong == 10:
+        right = current == records.passphrase(self.now.secret)
+        if self.now.frozen or self.now.wrong == 10:
             return
         if function == records.SET_PASSPHRASE:
-            allowed, right = not self.locked, right or not self.enabled
+            allowed, right = not self.now.locked, right or not self.now.enabled
         elif function == records.DISABLE:
-            allowed = self.enabled and not self.locked
+            allowed = self.now.enabled and not self.now.locked
         else:
-            allowed = self.enabled and self.locked
+            allowed = self.now.enabled and self.now.locked
         if not allowed:
             return
         if not right:
-            self.wrong += 1
+            self.now.wrong += 1
             return
-        self.wrong = 0
+        self.now.wrong = 0
         if function == records.SET_PASSPHRASE:
-            self.enabled, self.secret = True, new
+            self.now.enabled, self.now.secret = True, new
         elif function == records.DISABLE:
-            self.enabled, self.secret = False, b""
+            self.now.enabled, self.now.secret = False, b""
         else:
-            self.locked = False
+            self.now.locked = False
 
     def near(self):
         """The passphrase with one bit turned, or another one."""
-        right = bytearray(records.passphrase(self.secret))
+        right = bytearray(records.passphrase(self.now.secret))
         right[self.pick(0, 31, self.chance.randrange(32))] ^= 1 << self.chance.randrange(8)
         return self.pick(bytes(right), bytes(right), self.chance.choice(self.secrets))
 
     def fitting(self):
         """A function that looks at the passphrase in this state."""
-        return records.UNLOCK if self.locked else self.pick(records.DISABLE, records.SET_PASSPHRASE)
+        return records.UNLOCK if self.now.locked else self.pick(records.DISABLE, records.SET_PASSPHRASE)
 
     def passphrase_step(self):
         kind = self.chance.randrange(10)
@@ -267,9 +326,9 @@ class Maker:
         if kind < 3:
             self.passphrase_call(self.fitting(), self.near(), self.chance.choice(self.secrets))
         elif kind < 6:
-            self.passphrase_call(self.fitting(), self.secret, self.chance.choice(self.secrets))
+            self.passphrase_call(self.fitting(), self.now.secret, self.chance.choice(self.secrets))
         elif kind < 8:
-            self.passphrase_call(any_of, self.pick(self.secret, self.near()), self.chance.choice(self.secrets))
+            self.passphrase_call(any_of, self.pick(self.now.secret, self.near()), self.chance.choice(self.secrets))
         elif kind == 8:
             self.call(self.host(), records.SECURITY)
         elif self.one_in(4):
@@ -279,12 +338,12 @@ class Maker:
 
     def freeze(self):
         self.call(self.host(), records.FREEZE)
-        if self.wrong < 10:
-            self.frozen = True
+        if self.now.wrong < 10:
+            self.now.frozen = True
 
     def security(self):
-        if not self.enabled or self.one_in(4):
-            self.passphrase_call(records.SET_PASSPHRASE, self.secret, self.chance.choice(self.secrets))
+        if not self.now.enabled or self.one_in(4):
+            self.passphrase_call(records.SET_PASSPHRASE, self.now.secret, self.chance.choice(self.secrets))
         if self.one_in(2):
             self.power()
         for _ in range(self.pick(0, 1, 2, 5, 8, 9, 9, 10, 10, 11, 12)):
@@ -294,7 +353,7 @@ class Maker:
         self.call(self.host(), records.SECURITY)
         if self.one_in(5):
             self.freeze()
-        self.passphrase_call(self.fitting(), self.secret, self.chance.choice(self.secrets))
+        self.passphrase_call(self.fitting(), self.now.secret, self.chance.choice(self.secrets))
         self.call(self.host(), records.SECURITY)
         for _ in range(self.chance.randrange(6)):
             self.passphrase_step()
@@ -315,7 +374,7 @@ class Maker:
             if self.one_in(2):
                 self.call(host, records.SET_THRESHOLD, records.set_threshold(self.chance.randrange(8), self.pick(0, 1, 2, 50, 100),
                                                                              self.word(), self.word()))
-            self.log.append(records.reading(self.pick(0, 1, 2, 49, 50, 99, 100), self.word(), self.word()))
+            self.reading(self.pick(0, 1, 2, 49, 50, 99, 100), self.word(), self.word())
             self.call(host, records.GET_HEALTH, b"", self.pick(1, 2))
 
     def thresholds(self):
@@ -343,26 +402,34 @@ class Maker:
 
     def bad(self):
         """A record that would do something, but for one byte or two."""
-        record = self.pick(records.call(1, records.START), records.call(2, records.FINISH, records.finish(self.contexts, 1)),
-                           records.event(records.TICK), records.event(records.POWER), records.reading(100, 1, 0x8001),
-                           records.call(1, records.SEND, records.send(self.contexts, self.received, b"bad")))
-        kind = self.chance.randrange(6)
+        now = self.now
+        record = self.pick(records.call(1, records.START, module=self.own),
+                           records.call(2, records.FINISH, records.finish(now.current, 1), module=self.own),
+                           records.event(records.TICK), records.event(records.POWER, self.own), records.reading(100, 1, 0x8001, self.own),
+                           records.call(1, records.SEND, records.send(now.current, now.received, b"bad"), module=self.own))
+        kind = self.chance.randrange(8)
         if kind == 0:
             record = records.poke(record, 0, self.pick(0, 4, 5, 17, 129, 255))
         elif kind == 1:
-            record = records.poke(record, 1, self.pick(0, 5, 6, 128, 255) if record[0] == records.CALL else self.pick(1, 2, 255))
+            record = records.poke(record, 1, self.pick(0, 5, 6, 128, 255) if record[0] == records.CALL else self.pick(1, 2, 17, 255))
         elif kind == 2:
             record = record[:6] + records.le(self.pick(537, 538, 544, 1024, 0xFFFF), 2) + record[8:]
         elif kind == 3:
             record = records.poke(record, self.pick(543, 542, 100, 300, 13, 8), self.pick(1, 101, 128, 255))
         elif kind == 4:
             record = self.some_bytes(records.RECORD)
-        else:
+        elif kind == 5:
             record = bytes(records.RECORD)
+        elif kind == 6:
+            record = records.poke(record, 1, records.host_of(record) | self.chance.randrange(16) << 4)      # any module
+        else:
+            record = records.poke(record, 1, self.chance.randrange(256))
         if records.why_bad(record):
             self.log.append(record)
 
     def episode(self):
+        if self.one_in(2):
+            self.own = 1 - self.own
         kind = self.chance.randrange(22)
         if kind < 11:
             self.transfer()
