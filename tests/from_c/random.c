@@ -2,9 +2,10 @@
  *
  *     random SEED COUNT
  *
- * Each turn takes a record, an area, a request, an answer buffer and slots, gives both sides their own copies of the same
- * bytes, and compares what they answer and every byte afterwards, guards included. The first difference is printed, and the
- * exit status is then 1; so it is where a run of LONG turns or more never reached what such a run must. */
+ * Each turn takes a record of both modules, one module's from before, an area, a request, an answer buffer and slots, gives both
+ * sides their own copies of the same bytes and the same module, and compares what they answer and every byte afterwards, guards
+ * included. The first difference is printed, and the exit status is then 1; so it is where a run of LONG turns or more never
+ * reached what such a run must. */
 #include <stdio.h>
 #include <stdlib.h>
 #include <string.h>
@@ -47,8 +48,8 @@ struct buffer {
 };
 
 static struct buffer record = {.name = "record"}, area = {.name = "area"}, request = {.name = "request"},
-                     answer = {.name = "answer"}, slots = {.name = "slots"};
-static struct buffer *const buffers[] = {&record, &area, &request, &answer, &slots};
+                     answer = {.name = "answer"}, slots = {.name = "slots"}, old = {.name = "old record"};
+static struct buffer *const buffers[] = {&record, &area, &request, &answer, &slots, &old};
 enum { BUFFERS = sizeof buffers / sizeof *buffers };
 
 static uint8_t *mine(struct buffer *buffer) { return buffer->was + buffer->at; }
@@ -136,29 +137,38 @@ static uint8_t spare_near(uint8_t other)
     return (uint8_t)(percent(40) || near == 0 || near > 101 ? below(101) : near - 1);
 }
 
-/* What is in the record now, be it a threshold or a reading. */
-static uint8_t byte_kept(size_t at) { return record.length == RECORD_BYTES ? mine(&record)[at] : 0; }
-static uint16_t word_kept(size_t at) { return record.length == RECORD_BYTES ? get16(mine(&record) + at) : 0; }
+/* The module that the turn names, if there is one; else module 0. */
+static unsigned named;
 
-/* A possible record. */
-static void possible_record(void)
+static uint8_t *part(struct buffer *buffer, unsigned module) { return mine(buffer) + device_at(module); }
+static bool is_whole(void) { return record.length == RECORD_BYTES; }
+
+/* What is in that module's part of the record now, be it a threshold or a reading. */
+static uint8_t byte_kept(size_t at) { return is_whole() ? part(&record, named)[at] : 0; }
+static uint16_t word_kept(size_t at) { return is_whole() ? get16(part(&record, named) + at) : 0; }
+static uint32_t number_kept(unsigned module, size_t at) { return is_whole() ? get32(part(&record, module) + at) : 0; }
+
+static bool has_area(uint8_t phase) { return phase == RECEIVING || phase == VERIFYING; }
+
+/* A module that is possible in a cabinet that has given out so many contexts, in this phase. */
+static struct device possible_device(uint8_t phase, uint32_t contexts)
 {
     struct device device = {0};
 
-    device.phase = (uint8_t)below(5);
-    device.contexts = percent(10) ? 4294967295u - (uint32_t)below(2) : 1 + (uint32_t)below(4);
-    if (device.phase == IDLE && percent(30))
-        device.contexts = 0;
-    if (device.phase != IDLE)
+    device.phase = phase;
+    device.current = percent(60) || contexts == 0 ? contexts : 1 + (uint32_t)below(contexts);
+    if (phase == IDLE && percent(30))
+        device.current = 0;
+    if (phase != IDLE)
         device.received = percent(30) ? 0 : percent(30) ? 16384 - (uint32_t)below(600) : (uint32_t)below(16385);
-    if (device.phase == VERIFYING)
+    if (phase == VERIFYING)
         device.ticks = percent(50) ? 1 : (uint8_t)(1 + below(8));
-    if (device.phase == VERIFYING && area.length == MODULE_AREA_SIZE && percent(20))
+    if (phase == VERIFYING && area.length == MODULE_AREA_SIZE && percent(20))
         device.received = make_image();
     device.running = next() >> below(64);
-    if (device.phase == STAGED)
+    if (phase == STAGED)
         device.staged = percent(10) ? 0 : next() >> below(64);
-    if (device.phase == FAILED) {
+    if (phase == FAILED) {
         device.fault = (uint8_t)(SIZE_FAULT + below(SUM_FAULT));
         device.fault_record = (uint8_t)(percent(30) ? 127 : below(128));
     }
@@ -176,11 +186,35 @@ static void possible_record(void)
     device.attempts = percent(60) ? (uint8_t)below(3) : (uint8_t)(8 + below(3));
     if (device.enabled)
         fill(device.passphrase, sizeof device.passphrase);
-    renew(&record, RECORD_BYTES);
-    record_encode(&device, mine(&record));
+    return device;
 }
 
-/* What a record's fault, its reading and its trips byte can have wrong. */
+/* A record whose modules are possible, each for itself, in these phases. */
+static void make_record(uint8_t one, uint8_t other)
+{
+    struct cabinet cabinet;
+
+    cabinet.contexts = percent(14) ? 4294967295u - (uint32_t)below(2) : 1 + (uint32_t)below(4);
+    if (one == IDLE && other == IDLE && percent(30))
+        cabinet.contexts = 0;
+    cabinet.modules[0] = possible_device(one, cabinet.contexts);
+    cabinet.modules[1] = possible_device(other, cabinet.contexts);
+    renew(&record, RECORD_BYTES);
+    record_encode(&cabinet, mine(&record));
+}
+
+/* A possible record: one module at most has the area. */
+static void possible_record(void)
+{
+    static const uint8_t without[] = {IDLE, STAGED, FAILED};
+    uint8_t phases[MODULES] = {(uint8_t)below(5), (uint8_t)below(5)};
+
+    if (has_area(phases[0]) && has_area(phases[1]))
+        phases[below(MODULES)] = without[below(3)];
+    make_record(phases[0], phases[1]);
+}
+
+/* What a record can have wrong: a module's fault, its reading, its trips byte and its current context, and what is of both. */
 enum bad_field {
     NOTHING,
     NO_REASON,
@@ -190,15 +224,19 @@ enum bad_field {
     RECORD_ELSEWHERE,
     SPARE_OVER_100,
     WRONG_TRIPS,
+    CURRENT_OVER,
+    NO_CURRENT,
+    OF_BOTH, /* the first that is no one module's */
+    BOTH_HAVE_AREA = OF_BOTH,
+    HEAD_NOT_ZERO,
     BAD_FIELDS
 };
 
 static enum bad_field bad_field;
+static unsigned spoiled; /* the module whose part is wrong */
 
-static void spoil_fault(void)
+static void spoil_fault(uint8_t *at)
 {
-    uint8_t *at = mine(&record);
-
     bad_field = at[0] == FAILED ? NO_REASON + below(3) : REASON_ELSEWHERE + below(2);
     switch (bad_field) {
     case NO_REASON: at[38] = 0, at[39] = percent(50) ? 0 : at[39]; break;
@@ -209,52 +247,98 @@ static void spoil_fault(void)
     }
 }
 
-static void spoil_reading(void)
+static void spoil_reading(uint8_t *at)
 {
     bad_field = SPARE_OVER_100;
-    mine(&record)[40] = (uint8_t)(percent(50) ? 101 : 101 + below(155));
+    at[40] = (uint8_t)(percent(50) ? 101 : 101 + below(155));
 }
 
 /* Another byte, most often by one of its three bits. */
-static void spoil_trips(void)
+static void spoil_trips(uint8_t *at)
 {
     bad_field = WRONG_TRIPS;
-    mine(&record)[41] ^= (uint8_t)(1 << (percent(75) ? below(3) : below(8)));
+    at[41] ^= (uint8_t)(1 << (percent(75) ? below(3) : below(8)));
 }
 
-/* A record with something wrong, or nearly. */
-static void spoil_record(void)
+/* A current context that the cabinet has not given out, by one most often; or outside Idle none. */
+static void spoil_current(uint8_t *at)
 {
-    uint8_t *at = mine(&record);
+    uint32_t contexts = get32(mine(&record)), current = get32(at + 8);
 
-    switch (below(8)) {
-    case 0: at[below(record.length)] ^= (uint8_t)(1 << below(8)); break;
+    if (at[0] != IDLE && percent(40)) {
+        bad_field = NO_CURRENT;
+        put(at + 8, 4, 0);
+    } else if (current > 0 && percent(50)) {
+        bad_field = CURRENT_OVER;
+        put(mine(&record), 4, percent(80) ? current - 1 : below(current));
+    } else if (contexts < 4294967295u) {
+        bad_field = CURRENT_OVER;
+        put(at + 8, 4, percent(80) ? contexts + 1 : contexts + 1 + below(4294967295u - contexts));
+    }
+}
+
+/* What is of both modules: both have the area, or a byte between the contexts and the first of them. */
+static void spoil_cabinet(void)
+{
+    if (percent(50)) {
+        make_record(RECEIVING + (uint8_t)below(2), RECEIVING + (uint8_t)below(2));
+        bad_field = BOTH_HAVE_AREA;
+    } else {
+        mine(&record)[4 + below(HEAD_BYTES - 4)] ^= (uint8_t)(1 << below(8));
+        bad_field = HEAD_NOT_ZERO;
+    }
+}
+
+/* A module's part with something wrong, or nearly. */
+static void spoil_part(uint8_t *at)
+{
+    switch (below(9)) {
+    case 0: at[below(DEVICE_BYTES)] ^= (uint8_t)(1 << below(8)); break;
     case 1: at[below(6)] = (uint8_t)below(12); break;
     case 2: at[below(46)] = (uint8_t)next(); break;
     case 3: at[percent(50) ? 33 : percent(50) ? 46 + below(18) : 96 + below(32)] = (uint8_t)next(); break;
     case 4: put(at + 12, 4, 16384 + below(3)); break;
-    case 5: spoil_fault(); break;
-    case 6: spoil_reading(); break;
-    case 7: spoil_trips(); break;
+    case 5: spoil_fault(at); break;
+    case 6: spoil_reading(at); break;
+    case 7: spoil_trips(at); break;
+    case 8: put(at + 24, 8, 1 + below(2)); break;
     }
 }
 
-/* A record that an older library may have kept: none had a trips byte, the first two no reading, the first no fault in Failed.
- * Now and then something is wrong with it, or it has a reading all the same. */
+static void spoil_record(void)
+{
+    spoiled = (unsigned)below(MODULES);
+    if (percent(15))
+        spoil_cabinet();
+    else if (percent(20))
+        spoil_current(part(&record, spoiled));
+    else
+        spoil_part(part(&record, spoiled));
+}
+
+/* A module's record that an older library may have kept: a possible one; or before the trips byte one without it, before the reading
+ * without that either, and first of all no fault in Failed. Now and then something is wrong with it, or it has a reading all the same,
+ * or it is a part of the record that is there. */
 static void old_record(void)
 {
-    uint8_t *at;
+    uint8_t whole_record[RECORD_BYTES];
+    struct cabinet cabinet = {.contexts = percent(10) ? 4294967295u : 1 + (uint32_t)below(300)};
 
-    possible_record();
-    at = mine(&record);
-    switch (below(4)) {
-    case 0: memset(at + 38, 0, 8); break;
-    case 1: memset(at + 40, 0, 6); break;
-    case 2: at[41] = 0; break;
-    default: at[38] = at[39] = at[41] = 0; break;
+    cabinet.modules[0] = possible_device((uint8_t)below(5), cabinet.contexts);
+    cabinet.modules[1] = cabinet.modules[0];
+    record_encode(&cabinet, whole_record);
+    renew(&old, DEVICE_BYTES);
+    memcpy(mine(&old), percent(90) || !is_whole() ? whole_record + HEAD_BYTES : part(&record, (unsigned)below(MODULES)), DEVICE_BYTES);
+    switch (below(6)) {
+    case 0: memset(mine(&old) + 38, 0, 8); break;
+    case 1: memset(mine(&old) + 40, 0, 6); break;
+    case 2: mine(&old)[41] = 0; break;
+    case 3: mine(&old)[38] = mine(&old)[39] = mine(&old)[41] = 0; break;
+    default: break;
     }
     if (percent(25))
-        spoil_record();
+        spoil_part(mine(&old));
+    bad_field = NOTHING;
 }
 
 static size_t odd_length(size_t right)
@@ -268,6 +352,12 @@ static size_t odd_length(size_t right)
     }
 }
 
+/* The length of one module's record among them. */
+static size_t odd_record_length(void)
+{
+    return percent(25) ? DEVICE_BYTES : odd_length(RECORD_BYTES);
+}
+
 static bool goes_on;
 
 static void choose_record(void)
@@ -276,16 +366,27 @@ static void choose_record(void)
 
     if (kind < 65 && goes_on)
         return;
-    if (kind < 95)
+    if (kind < 96)
         possible_record();
-    else if (kind < 97)
+    else if (kind < 98)
         renew(&record, RECORD_BYTES);
     else
-        renew(&record, below(300));
-    if (kind >= 87 && kind < 95)
+        renew(&record, below(600));
+    if (kind >= 85 && kind < 95)
         spoil_record();
-    if (kind == 94)
-        record.length = odd_length(RECORD_BYTES);
+    if (kind == 95)
+        record.length = odd_record_length();
+}
+
+/* One module's record from before, or any bytes, of another length now and then. */
+static void choose_old(void)
+{
+    if (percent(85))
+        old_record();
+    else
+        renew(&old, percent(40) ? DEVICE_BYTES : percent(30) ? RECORD_BYTES : odd_length(DEVICE_BYTES));
+    if (percent(4))
+        old.length = odd_length(DEVICE_BYTES);
 }
 
 /* The area as it was, but for so many of a hundred turns. */
@@ -319,16 +420,20 @@ static uint64_t choose_slot(void)
 
 /* ---- Requests ---- */
 
+/* The module's current context most often, or nearly, or the other module's, or what both have been given. */
 static uint32_t context(void)
 {
-    uint32_t current = record.length == RECORD_BYTES ? get32(mine(&record) + 8) : 0;
+    uint32_t current = number_kept(named, 8), others = number_kept(1 - named, 8);
 
-    return percent(90) ? current : percent(50) ? current + (uint32_t)below(3) - 1 : (uint32_t)next();
+    if (percent(85))
+        return current;
+    return percent(30) ? others : percent(30) && is_whole() ? get32(mine(&record))
+         : percent(50) ? current + (uint32_t)below(3) - 1 : (uint32_t)next();
 }
 
 static void send_request(void)
 {
-    uint32_t received = record.length == RECORD_BYTES ? get32(mine(&record) + 12) : 0;
+    uint32_t received = number_kept(named, 12);
     uint32_t length = percent(60) ? 512 : percent(10) ? 513 : percent(80) ? (uint32_t)below(514) : (uint32_t)(next() >> below(33));
     uint32_t offset = percent(85) ? received : percent(50) ? received + (uint32_t)below(5) - 2 : (uint32_t)(next() >> below(33));
 
@@ -343,12 +448,12 @@ static void send_request(void)
     put(mine(&request) + 8, 4, length);
 }
 
-/* The record's passphrase, or nearly. */
+/* The module's passphrase, or nearly, or the other module's. */
 static void passphrase(uint8_t *at)
 {
-    if (record.length == RECORD_BYTES)
-        memcpy(at, mine(&record) + 64, MODULE_PASSPHRASE_SIZE);
-    if (percent(35))
+    if (is_whole())
+        memcpy(at, part(&record, percent(90) ? named : 1 - named) + 64, MODULE_PASSPHRASE_SIZE);
+    if (percent(30))
         at[below(MODULE_PASSPHRASE_SIZE)] ^= (uint8_t)(1 << below(8));
 }
 
@@ -404,11 +509,19 @@ enum event { FRESH, CALL, TICK, POWER, READING, ADOPT, SLOTS_FRESH, SLOTS_WRITE,
 
 struct turn {
     enum event event;
-    uint64_t revision, function, slot;
+    uint64_t module, revision, function, slot;
     uint8_t spare;
     uint16_t media, controller;
     int32_t given[SIDES];
 };
+
+/* Modules 0 and 1, or any other number: the next, one that is 0 or 1 in its low bits, or a huge one. */
+static uint64_t choose_module(void)
+{
+    if (percent(93))
+        return below(MODULES);
+    return percent(40) ? 2 + below(3) : percent(60) ? below(MODULES) + ((uint64_t)1 << (1 + below(63))) : next() | 2;
+}
 
 static uint64_t choose_function(void)
 {
@@ -452,12 +565,14 @@ static struct turn choose(void)
 
     good_image = false;
     bad_field = NOTHING;
-    choose_area(turn.event == READING ? 8 : 1);
+    turn.module = choose_module();
+    named = turn.module < MODULES ? (unsigned)turn.module : 0;
+    choose_area(turn.event == READING || turn.module >= MODULES ? 8 : 1);
     choose_record();
-    if (turn.event == ADOPT && percent(60))
-        old_record();
+    if (turn.event == ADOPT)
+        choose_old();
     choose_slots();
-    if (good_image)
+    if (good_image && turn.event != ADOPT)
         turn.event = TICK;
     turn.function = choose_function();
     turn.revision = choose_revision(turn.function);
@@ -473,18 +588,19 @@ static int32_t by_library(const struct turn *turn)
     uint8_t *r = lent(&record, 0), *a = lent(&area, 0), *q = lent(&request, 0), *b = lent(&answer, 0), *s = lent(&slots, 0);
 
     switch (turn->event) {
-    case FRESH: return module_fresh(r, record.length);
-    case TICK: return module_tick(r, record.length, a, area.length);
-    case POWER: return module_power(r, record.length, a, area.length);
-    case READING: return module_reading(r, record.length, a, area.length, turn->spare, turn->media, turn->controller);
-    case ADOPT: return module_adopt(r, record.length);
+    case FRESH: return cabinet_fresh(r, record.length);
+    case TICK: return cabinet_tick(r, record.length, a, area.length);
+    case POWER: return cabinet_power(r, record.length, a, area.length, turn->module);
+    case READING:
+        return cabinet_reading(r, record.length, a, area.length, turn->module, turn->spare, turn->media, turn->controller);
+    case ADOPT: return cabinet_adopt(lent(&old, 0), old.length, r, record.length);
     case SLOTS_FRESH: return slots_fresh(s, slots.length);
     case SLOTS_WRITE: return slots_write(s, slots.length, r, record.length);
     case SLOTS_SELECT: return slots_select(s, slots.length, turn->slot);
     case SLOTS_READ: return slots_read(s, slots.length, r, record.length);
     default:
-        return module_call(r, record.length, a, area.length, turn->revision, turn->function, q, request.length, b,
-                           answer.length);
+        return cabinet_call(r, record.length, a, area.length, turn->module, turn->revision, turn->function, q, request.length, b,
+                            answer.length);
     }
 }
 
@@ -495,16 +611,17 @@ static int32_t by_independent(const struct turn *turn)
     switch (turn->event) {
     case FRESH: return independent_fresh(r, record.length);
     case TICK: return independent_tick(r, record.length, a, area.length);
-    case POWER: return independent_power(r, record.length, a, area.length);
-    case READING: return independent_reading(r, record.length, a, area.length, turn->spare, turn->media, turn->controller);
-    case ADOPT: return independent_adopt(r, record.length);
+    case POWER: return independent_power(r, record.length, a, area.length, turn->module);
+    case READING:
+        return independent_reading(r, record.length, a, area.length, turn->module, turn->spare, turn->media, turn->controller);
+    case ADOPT: return independent_adopt(lent(&old, 1), old.length, r, record.length);
     case SLOTS_FRESH: return independent_slots_fresh(s, slots.length);
     case SLOTS_WRITE: return independent_slots_write(s, slots.length, r, record.length);
     case SLOTS_SELECT: return independent_slots_select(s, slots.length, turn->slot);
     case SLOTS_READ: return independent_slots_read(s, slots.length, r, record.length);
     default:
-        return independent_call(r, record.length, a, area.length, turn->revision, turn->function, q, request.length, b,
-                                answer.length);
+        return independent_call(r, record.length, a, area.length, turn->module, turn->revision, turn->function, q, request.length,
+                                b, answer.length);
     }
 }
 
@@ -545,7 +662,10 @@ static const char *fault(const struct turn *turn, const struct buffer **where)
             return "a refusal wrote something";
     }
     *where = &request;
-    return untouched(&request, 0) ? NULL : "the request was written";
+    if (!untouched(&request, 0))
+        return "the request was written";
+    *where = &old;
+    return untouched(&old, 0) ? NULL : "the old record was written";
 }
 
 static const char *const names[] = {"fresh",     "calls",       "ticks",       "power cycles", "readings",
@@ -556,9 +676,10 @@ static void show(const struct turn *turn, uint64_t number, const char *what, con
     size_t i = 0;
 
     printf("turn %llu: %s (%s)\n", (unsigned long long)number, what, where->name);
-    printf("%s revision %llu function %llu slot %llu spare %u media %04x controller %04x: library %d, independent %d\n",
-           names[turn->event], (unsigned long long)turn->revision, (unsigned long long)turn->function,
-           (unsigned long long)turn->slot, turn->spare, turn->media, turn->controller, (int)turn->given[0], (int)turn->given[1]);
+    printf("%s module %llu revision %llu function %llu slot %llu spare %u media %04x controller %04x: library %d, independent %d\n",
+           names[turn->event], (unsigned long long)turn->module, (unsigned long long)turn->revision,
+           (unsigned long long)turn->function, (unsigned long long)turn->slot, turn->spare, turn->media, turn->controller,
+           (int)turn->given[0], (int)turn->given[1]);
     while (i + 1 < whole(where) && where->side[0][i] == where->side[1][i])
         i++;
     printf("first byte that differs: %d: library %u, independent %u, before %u\n", (int)i - (int)where->at, where->side[0][i],
@@ -573,17 +694,52 @@ static void show(const struct turn *turn, uint64_t number, const char *what, con
 
 /* ---- What came up ---- */
 
-enum { STATUS = 5, TRIPS = 8 }; /* kinds from STATUS on are statuses, or the slots' numbers; the trips byte has three bits */
+enum { STATUS = 6, TRIPS = 8 }; /* kinds from STATUS on are statuses, or the slots' numbers; the trips byte has three bits */
 
-static uint64_t tally[EVENTS][32], stagings, failures[SUM_FAULT + 1], refused_fields[BAD_FIELDS], taken_over, left_alone;
+static uint64_t tally[EVENTS][32], stagings[MODULES], failures[SUM_FAULT + 1], taken_over, left_alone;
+static uint64_t refused_fields[BAD_FIELDS][MODULES]; /* R3, by whether the named module's part was wrong or the other's */
+static uint64_t by_module[EVENTS][MODULES];          /* what was done, by module */
 static uint64_t renewed;        /* taken over by its trips byte alone */
 static uint64_t wrong_trips[EVENTS];    /* R3 for a trips byte that is not the one of thresholds and reading, by event */
 static uint64_t with_reading;   /* Failed without a reason, but with a reading: not taken over */
+static uint64_t old_lengths[3]; /* R3 of an adoption for an old record of 127, 129 and 288 bytes */
 static uint64_t trips[TRIPS];   /* function 1 accepted, by what it told */
 static uint64_t health[4];      /* function 1 answered, by revision */
-static uint64_t over_100[5];    /* readings of spare over 100, by R number */
+static uint64_t over_100[6];    /* readings of spare over 100, by R number */
+static uint64_t lengths[3];     /* R3 for a record of 287, 289 and 128 bytes */
 
-/* Answers by kind: 1 to 4 the R numbers, or 1 a refusal of the slots. */
+/* How a Start was answered, and how R numbers stand to each other. */
+enum special {
+    BUSY,
+    USED_UP,
+    BUSY_AND_USED_UP,
+    OUT_OF_TURN_BESIDE,
+    STAGED_BESIDE,
+    AREA_TAKEN_OVER,
+    R2_OVER_R5,
+    R5_OVER_R3,
+    R5_OVER_R4,
+    R5_HUGE,
+    OTHERS_PASSPHRASE,
+    OTHERS_CONTEXT,
+    SPECIALS
+};
+
+static uint64_t specials[SPECIALS];
+static const char *const special_names[] = {"status 8, the other module has the area",
+                                            "status 8, every context is given out",
+                                            "status 8, both",
+                                            "7/1 beside a module that is not Idle",
+                                            "7/2 while the other module has the area",
+                                            "a Start beside a module that is Staged or Failed",
+                                            "R2, and the module is over 1",
+                                            "R5, and the record is not possible",
+                                            "R5, and the spare is over 100",
+                                            "R5 for a module over 32 bits",
+                                            "status 11 for the other module's passphrase",
+                                            "7/1 for the other module's context"};
+
+/* Answers by kind: 1 to 5 the R numbers, or 1 a refusal of the slots. */
 static unsigned kind_of(const struct turn *turn)
 {
     if (turn->given[0] < 0)
@@ -607,13 +763,56 @@ static void count_health(const struct turn *turn, unsigned kind)
 
 static void count_adoption(unsigned kind)
 {
-    const uint8_t *was = mine(&record);
+    const uint8_t *was = mine(&old), *is = lent(&record, 0) + HEAD_BYTES;
 
-    taken_over += kind == 0 && !untouched(&record, 0);
-    left_alone += kind == 0 && untouched(&record, 0);
-    renewed += kind == 0 && lent(&record, 0)[41] != was[41] && lent(&record, 0)[0] == was[0];
-    with_reading += kind == 3 && record.length == RECORD_BYTES && was[0] == FAILED && all_zero(was + 38, 2)
-        && !all_zero(was + 40, 6);
+    if (kind == 0) {
+        bool same = memcmp(was, is, DEVICE_BYTES) == 0;
+        taken_over += !same;
+        left_alone += same;
+        renewed += is[41] != was[41] && is[0] == was[0];
+    } else if (is_whole()) {
+        with_reading += old.length == DEVICE_BYTES && was[0] == FAILED && all_zero(was + 38, 2) && !all_zero(was + 40, 6);
+        old_lengths[0] += old.length == DEVICE_BYTES - 1;
+        old_lengths[1] += old.length == DEVICE_BYTES + 1;
+        old_lengths[2] += old.length == RECORD_BYTES;
+    }
+}
+
+/* A record that can be looked at, before and after. */
+static void count_start(unsigned kind)
+{
+    uint8_t own = part(&record, named)[0], other = part(&record, 1 - named)[0];
+    bool none_left = get32(mine(&record)) == 4294967295u;
+
+    specials[BUSY] += kind == STATUS + 8 && has_area(other) && !none_left;
+    specials[USED_UP] += kind == STATUS + 8 && !has_area(other);
+    specials[BUSY_AND_USED_UP] += kind == STATUS + 8 && has_area(other) && none_left;
+    specials[OUT_OF_TURN_BESIDE] += kind == STATUS + 7 && has_area(own) && other != IDLE;
+    specials[STAGED_BESIDE] += kind == STATUS + 7 && own == STAGED && has_area(other);
+    specials[AREA_TAKEN_OVER] += kind == STATUS && (other == STAGED || other == FAILED);
+}
+
+static void count_call(const struct turn *turn, unsigned kind)
+{
+    const uint8_t *q = mine(&request), *other = part(&record, 1 - named);
+
+    if (turn->function == MODULE_START && request.length == 0)
+        count_start(kind);
+    if (turn->function >= MODULE_SET_PASSPHRASE && turn->function <= MODULE_UNLOCK && kind == STATUS + 11)
+        specials[OTHERS_PASSPHRASE] += other[1] == 1 && memcmp(q, other + 64, MODULE_PASSPHRASE_SIZE) == 0;
+    if (turn->function == MODULE_SEND && request.length > MODULE_SEND_HEAD && kind == STATUS + 7)
+        specials[OTHERS_CONTEXT] += get32(q) == get32(other + 8) && get32(q) != number_kept(named, 8);
+}
+
+/* One R number where there was cause for another too. */
+static void count_order(const struct turn *turn, unsigned kind)
+{
+    bool names = turn->event == CALL || turn->event == POWER || turn->event == READING;
+
+    specials[R2_OVER_R5] += names && kind == 2 && turn->module >= MODULES;
+    specials[R5_OVER_R3] += kind == 5 && (bad_field != NOTHING || !is_whole());
+    specials[R5_OVER_R4] += kind == 5 && turn->event == READING && turn->spare > SPARE_MOST;
+    specials[R5_HUGE] += kind == 5 && turn->module >> 32 != 0;
 }
 
 /* How often a reserved bit, and nothing else of the request, was refused: bits 8 to 31 of a Finish, 3 to 15 of a Set Threshold. */
@@ -635,30 +834,48 @@ static void count_reserved(const struct turn *turn)
         count_bit(enable_bits, get16(at) & 0xfff8u);
 }
 
+static void count_refused(const struct turn *turn)
+{
+    unsigned whose = spoiled != named;
+
+    refused_fields[bad_field][bad_field >= OF_BOTH ? 0 : whose]++;
+    wrong_trips[turn->event] += bad_field == WRONG_TRIPS;
+    lengths[0] += record.length == RECORD_BYTES - 1;
+    lengths[1] += record.length == RECORD_BYTES + 1;
+    lengths[2] += record.length == DEVICE_BYTES;
+}
+
 static void count(const struct turn *turn)
 {
-    const uint8_t *after = lent(&record, 0);
     unsigned kind = kind_of(turn);
 
     tally[turn->event][kind & 31]++;
     count_health(turn, kind);
-    if (turn->event == TICK && kind == 0 && mine(&record)[0] == VERIFYING) {
-        stagings += after[0] == STAGED;
-        failures[after[0] == FAILED ? after[38] : NO_FAULT]++;
+    count_order(turn, kind);
+    if (kind == 0 || (turn->event == CALL && kind == STATUS))
+        by_module[turn->event][named]++;
+    for (unsigned module = 0; turn->event == TICK && kind == 0 && module < MODULES; module++) {
+        const uint8_t *after = lent(&record, 0) + device_at(module);
+        if (part(&record, module)[0] == VERIFYING) {
+            stagings[module] += after[0] == STAGED;
+            failures[after[0] == FAILED ? after[38] : NO_FAULT]++;
+        }
     }
     if (turn->event == ADOPT)
         count_adoption(kind);
-    else if (kind == 3) {
-        refused_fields[bad_field]++;
-        wrong_trips[turn->event] += bad_field == WRONG_TRIPS;
-    }
+    else if (kind == 3)
+        count_refused(turn);
+    if (turn->event == CALL && kind >= STATUS)
+        count_call(turn, kind);
     if (turn->event == CALL && kind == STATUS + MODULE_WRONG_FIELD)
         count_reserved(turn);
 }
 
 static const char *const reasons[] = {"none", "size", "number", "count", "version", "sum"};
 static const char *const bad_fields[] = {"nothing", "no reason in Failed", "reason 6", "record 128", "a reason elsewhere",
-                                         "a record elsewhere", "a reading's spare over 100", "a wrong trips byte"};
+                                         "a record elsewhere", "a reading's spare over 100", "a wrong trips byte",
+                                         "a current context over those given out", "no current context outside Idle",
+                                         "both modules with the area", "a byte behind the contexts"};
 
 static void report_health(void)
 {
@@ -666,8 +883,8 @@ static void report_health(void)
            (unsigned long long)health[2], (unsigned long long)health[3]);
     for (int told = 0; told < TRIPS; told++)
         printf(" %d: %llu%s", told, (unsigned long long)trips[told], told < TRIPS - 1 ? "," : "\n");
-    printf("readings of spare over 100: R2 %llu, R3 %llu, R4 %llu\n", (unsigned long long)over_100[2],
-           (unsigned long long)over_100[3], (unsigned long long)over_100[4]);
+    printf("readings of spare over 100: R2 %llu, R5 %llu, R3 %llu, R4 %llu\n", (unsigned long long)over_100[2],
+           (unsigned long long)over_100[5], (unsigned long long)over_100[3], (unsigned long long)over_100[4]);
 }
 
 static void report(uint64_t turns)
@@ -675,8 +892,8 @@ static void report(uint64_t turns)
     printf("%llu turns agree, no guard touched\n", (unsigned long long)turns);
     for (int event = FRESH; event <= ADOPT; event++) {
         uint64_t *row = tally[event];
-        printf("%s: R1 %llu, R2 %llu, R3 %llu", names[event], (unsigned long long)row[1], (unsigned long long)row[2],
-               (unsigned long long)row[3]);
+        printf("%s: R1 %llu, R2 %llu, R5 %llu, R3 %llu", names[event], (unsigned long long)row[1], (unsigned long long)row[2],
+               (unsigned long long)row[5], (unsigned long long)row[3]);
         if (event == READING)
             printf(", R4 %llu", (unsigned long long)row[4]);
         if (event != CALL)
@@ -690,12 +907,14 @@ static void report(uint64_t turns)
     for (int event = SLOTS_FRESH; event < EVENTS; event++)
         printf("%s: refused %llu, 0 %llu, 1 %llu\n", names[event], (unsigned long long)tally[event][1],
                (unsigned long long)tally[event][STATUS], (unsigned long long)tally[event][STATUS + 1]);
-    printf("verified: %llu staged; failed by", (unsigned long long)stagings);
+    printf("verified: %llu and %llu staged; failed by", (unsigned long long)stagings[0], (unsigned long long)stagings[1]);
     for (int reason = SIZE_FAULT; reason <= SUM_FAULT; reason++)
         printf(" %s %llu%s", reasons[reason], (unsigned long long)failures[reason], reason < SUM_FAULT ? "," : "\n");
     printf("adopted: %llu taken over, %llu left as they were, %llu refused for a reading\n", (unsigned long long)taken_over,
            (unsigned long long)left_alone, (unsigned long long)with_reading);
     report_health();
+    for (int i = 0; i < SPECIALS; i++)
+        printf("%s: %llu\n", special_names[i], (unsigned long long)specials[i]);
 }
 
 /* So many turns come to each of these ten times or so at least, whatever the seed. A run that never did has compared less than
@@ -708,12 +927,13 @@ static const struct {
     const char *what;
 } must[] = {
     {FRESH, 3, "R3"},              {CALL, 1, "R1"},                  {CALL, 2, "R2"},
-    {CALL, 3, "R3"},               {CALL, STATUS + 0, "status 0"},   {CALL, STATUS + 1, "status 1"},
-    {CALL, STATUS + 3, "status 3"}, {CALL, STATUS + 6, "status 6"},  {CALL, STATUS + 7, "status 7"},
-    {CALL, STATUS + 8, "status 8"}, {CALL, STATUS + 10, "status 10"}, {CALL, STATUS + 11, "status 11"},
-    {TICK, 2, "R2"},               {TICK, 3, "R3"},                  {POWER, 2, "R2"},
-    {POWER, 3, "R3"},              {READING, 2, "R2"},               {READING, 3, "R3"},
-    {READING, 4, "R4"},            {READING, 0, "a reading kept"},   {ADOPT, 3, "R3"},
+    {CALL, 3, "R3"},               {CALL, 5, "R5"},                  {CALL, STATUS + 0, "status 0"},
+    {CALL, STATUS + 1, "status 1"}, {CALL, STATUS + 3, "status 3"},  {CALL, STATUS + 6, "status 6"},
+    {CALL, STATUS + 7, "status 7"}, {CALL, STATUS + 8, "status 8"},  {CALL, STATUS + 10, "status 10"},
+    {CALL, STATUS + 11, "status 11"}, {TICK, 2, "R2"},               {TICK, 3, "R3"},
+    {POWER, 2, "R2"},              {POWER, 3, "R3"},                 {POWER, 5, "R5"},
+    {READING, 2, "R2"},            {READING, 3, "R3"},               {READING, 4, "R4"},
+    {READING, 5, "R5"},            {READING, 0, "a reading kept"},   {ADOPT, 3, "R3"},
     {SLOTS_FRESH, 1, "-1"},        {SLOTS_FRESH, STATUS, "0"},       {SLOTS_WRITE, 1, "-1"},
     {SLOTS_WRITE, STATUS, "0"},    {SLOTS_WRITE, STATUS + 1, "1"},   {SLOTS_SELECT, 1, "-1"},
     {SLOTS_SELECT, STATUS, "0"},   {SLOTS_READ, 1, "-1"},            {SLOTS_READ, STATUS, "0"},
@@ -731,15 +951,43 @@ static bool reached_health(void)
 {
     static const char *const revisions[] = {"", "revision 1", "revision 2", "revision 3"};
     static const char *const told[] = {"trips 0", "trips 1", "trips 2", "trips 3", "trips 4", "trips 5", "trips 6", "trips 7"};
-    static const char *const numbers[] = {"", "", "R2", "R3", "R4"};
+    static const char *const numbers[] = {"", "", "R2", "R3", "R4", "R5"};
     bool all = true;
 
     for (int revision = 1; revision < 4; revision++)
         all &= reached(health[revision], "function 1", revisions[revision]);
     for (int i = 0; i < TRIPS; i++)
         all &= reached(trips[i], "function 1", told[i]);
-    for (int number = 2; number < 5; number++)
+    for (int number = 2; number < 6; number++)
         all &= reached(over_100[number], "a reading of spare over 100", numbers[number]);
+    return all;
+}
+
+/* Everything of each module, each part of a record wrong whichever module is named, and lengths of a record that are nearly right. */
+static bool reached_modules(void)
+{
+    static const char *const one_or_other[] = {"module 0", "module 1"};
+    static const char *const sizes[] = {"R3 for 287 bytes", "R3 for 289 bytes", "R3 for 128 bytes"};
+    static const char *const old_sizes[] = {"R3 for 127 bytes", "R3 for 129 bytes", "R3 for 288 bytes"};
+    static const enum event of_one[] = {CALL, POWER, READING};
+    bool all = true;
+
+    for (int module = 0; module < MODULES; module++) {
+        all &= reached(stagings[module], "a staging", one_or_other[module]);
+        for (size_t i = 0; i < sizeof of_one / sizeof *of_one; i++)
+            all &= reached(by_module[of_one[i]][module], names[of_one[i]], one_or_other[module]);
+    }
+    for (int wrong = NO_REASON; wrong < BAD_FIELDS; wrong++) {
+        all &= reached(refused_fields[wrong][0], "R3 for", bad_fields[wrong]);
+        if (wrong < OF_BOTH)
+            all &= reached(refused_fields[wrong][1], "R3 in the other module's part for", bad_fields[wrong]);
+    }
+    for (int i = 0; i < 3; i++) {
+        all &= reached(lengths[i], "a record", sizes[i]);
+        all &= reached(old_lengths[i], "an old record", old_sizes[i]);
+    }
+    for (int i = 0; i < SPECIALS; i++)
+        all &= reached(specials[i], "modules", special_names[i]);
     return all;
 }
 
@@ -747,13 +995,11 @@ static bool reached_all(void)
 {
     bool all = reached_health();
 
+    all &= reached_modules();
     for (size_t i = 0; i < sizeof must / sizeof *must; i++)
         all &= reached(tally[must[i].event][must[i].kind], names[must[i].event], must[i].what);
-    all &= reached(stagings, names[TICK], "a staging");
     for (int reason = SIZE_FAULT; reason <= SUM_FAULT; reason++)
         all &= reached(failures[reason], "failed by", reasons[reason]);
-    for (int wrong = NO_REASON; wrong < BAD_FIELDS; wrong++)
-        all &= reached(refused_fields[wrong], "R3 for", bad_fields[wrong]);
     for (int bit = 8; bit < 32; bit++)
         all &= reached(finish_bits[bit], "refused by itself", "a reserved bit of a Finish");
     for (int bit = 3; bit < 16; bit++)

@@ -3,8 +3,8 @@
  *     words
  *
  * Each of the 65,536 words is read as the media's temperature and set as the controller's threshold, and a word near it the other
- * way round, with both alarms on: so each pair is compared both ways. Both sides take the reading and answer function 1; numbers,
- * records and answers are compared whole, and the first difference is printed. */
+ * way round, with both alarms on: so each pair is compared both ways, in one module or the other. Both sides take the reading and
+ * answer function 1; numbers, records and answers are compared whole, and the first difference is printed. */
 #include <stdio.h>
 #include <string.h>
 
@@ -14,25 +14,29 @@
 static uint8_t area[MODULE_AREA_SIZE], one[MODULE_RECORD_SIZE], other[MODULE_RECORD_SIZE];
 static uint8_t one_answer[MODULE_ANSWER_LEAST], other_answer[MODULE_ANSWER_LEAST];
 
+static uint64_t asked; /* each module in turn */
+
 static bool ask(void)
 {
-    return module_call(one, sizeof one, area, sizeof area, 2, MODULE_GET_HEALTH, area, 0, one_answer, sizeof one_answer) == 132
-        && independent_call(other, sizeof other, area, sizeof area, 2, MODULE_GET_HEALTH, area, 0, other_answer,
+    return cabinet_call(one, sizeof one, area, sizeof area, asked, 2, MODULE_GET_HEALTH, area, 0, one_answer, sizeof one_answer) == 132
+        && independent_call(other, sizeof other, area, sizeof area, asked, 2, MODULE_GET_HEALTH, area, 0, other_answer,
                             sizeof other_answer) == 132;
 }
 
 static int compared(uint16_t word, uint16_t near)
 {
-    struct device device = {0};
+    struct cabinet cabinet;
+    struct device *device = &cabinet.modules[asked = 1 - asked];
 
-    device.enable = 6;
-    device.media = near;
-    device.controller = word;
-    device.trips = device_trips(&device);
-    record_encode(&device, one);
-    record_encode(&device, other);
-    if (module_reading(one, sizeof one, area, sizeof area, 0, word, near) == 0
-        && independent_reading(other, sizeof other, area, sizeof area, 0, word, near) == 0 && ask()
+    modules_fresh(&cabinet);
+    device->enable = 6;
+    device->media = near;
+    device->controller = word;
+    device->trips = device_trips(device);
+    record_encode(&cabinet, one);
+    record_encode(&cabinet, other);
+    if (cabinet_reading(one, sizeof one, area, sizeof area, asked, 0, word, near) == 0
+        && independent_reading(other, sizeof other, area, sizeof area, asked, 0, word, near) == 0 && ask()
         && memcmp(one, other, sizeof one) == 0 && memcmp(one_answer, other_answer, sizeof one_answer) == 0)
         return 1;
     printf("words %04x and %04x: the library trips %u, the independent program %u\n", word, near, one_answer[15], other_answer[15]);
