@@ -12,6 +12,8 @@
 #include "../../include/module.h"
 #include "../independent/slots.h"
 
+enum { MODULE = 1 }; /* the one that is called; the other is fresh */
+
 static uint8_t before[MODULE_RECORD_SIZE], record[MODULE_RECORD_SIZE], area[MODULE_AREA_SIZE];
 static uint8_t request[MODULE_SEND_HEAD + MODULE_PIECE_MOST], answer[MODULE_ANSWER_LEAST], slots[MODULE_SLOTS_SIZE];
 
@@ -33,23 +35,25 @@ static void make_image(void)
 
 static void prepare(const char *what)
 {
-    struct device device = {0};
+    struct cabinet cabinet;
+    struct device *device = &cabinet.modules[MODULE];
 
-    device.running = 1;
-    device.contexts = 1;
-    device.phase = RECEIVING;
-    device.enable = 7;
-    device.spare = 10;
-    device.media = 560;
-    device.controller = 0x8010;
-    device.trips = device_trips(&device);
+    modules_fresh(&cabinet);
+    cabinet.contexts = 1;
+    device->current = 1;
+    device->phase = RECEIVING;
+    device->enable = 7;
+    device->spare = 10;
+    device->media = 560;
+    device->controller = 0x8010;
+    device->trips = device_trips(device);
     if (strcmp(what, "tick") == 0) {
         make_image();
-        device.phase = VERIFYING;
-        device.received = MODULE_AREA_SIZE;
-        device.ticks = 1;
+        device->phase = VERIFYING;
+        device->received = MODULE_AREA_SIZE;
+        device->ticks = 1;
     }
-    record_encode(&device, before);
+    record_encode(&cabinet, before);
     memset(request, 'x', sizeof request);
     put32(request, 1);
     put32(request + 4, 0);
@@ -59,39 +63,39 @@ static void prepare(const char *what)
 /* Each call as it is made, its arguments included. */
 static int32_t library_send(void)
 {
-    return module_call(record, sizeof record, area, sizeof area, 2, MODULE_SEND, request, sizeof request, answer, sizeof answer);
+    return cabinet_call(record, sizeof record, area, sizeof area, MODULE, 2, MODULE_SEND, request, sizeof request, answer, sizeof answer);
 }
 
 static int32_t independent_send(void)
 {
-    return independent_call(record, sizeof record, area, sizeof area, 2, MODULE_SEND, request, sizeof request, answer,
+    return independent_call(record, sizeof record, area, sizeof area, MODULE, 2, MODULE_SEND, request, sizeof request, answer,
                             sizeof answer);
 }
 
 static int32_t library_info(void)
 {
-    return module_call(record, sizeof record, area, sizeof area, 2, MODULE_GET_FW_INFO, request, 0, answer, sizeof answer);
+    return cabinet_call(record, sizeof record, area, sizeof area, MODULE, 2, MODULE_GET_FW_INFO, request, 0, answer, sizeof answer);
 }
 
 static int32_t independent_info(void)
 {
-    return independent_call(record, sizeof record, area, sizeof area, 2, MODULE_GET_FW_INFO, request, 0, answer, sizeof answer);
+    return independent_call(record, sizeof record, area, sizeof area, MODULE, 2, MODULE_GET_FW_INFO, request, 0, answer, sizeof answer);
 }
 
 static int32_t library_health(void)
 {
-    return module_call(record, sizeof record, area, sizeof area, 2, MODULE_GET_HEALTH, request, 0, answer, sizeof answer);
+    return cabinet_call(record, sizeof record, area, sizeof area, MODULE, 2, MODULE_GET_HEALTH, request, 0, answer, sizeof answer);
 }
 
 static int32_t independent_health(void)
 {
-    return independent_call(record, sizeof record, area, sizeof area, 2, MODULE_GET_HEALTH, request, 0, answer, sizeof answer);
+    return independent_call(record, sizeof record, area, sizeof area, MODULE, 2, MODULE_GET_HEALTH, request, 0, answer, sizeof answer);
 }
 
-static int32_t library_reading(void) { return module_reading(record, sizeof record, area, sizeof area, 80, 640, 0x8018); }
-static int32_t independent_sensors(void) { return independent_reading(record, sizeof record, area, sizeof area, 80, 640, 0x8018); }
+static int32_t library_reading(void) { return cabinet_reading(record, sizeof record, area, sizeof area, MODULE, 80, 640, 0x8018); }
+static int32_t independent_sensors(void) { return independent_reading(record, sizeof record, area, sizeof area, MODULE, 80, 640, 0x8018); }
 
-static int32_t library_tick(void) { return module_tick(record, sizeof record, area, sizeof area); }
+static int32_t library_tick(void) { return cabinet_tick(record, sizeof record, area, sizeof area); }
 static int32_t independent_ticked(void) { return independent_tick(record, sizeof record, area, sizeof area); }
 static int32_t none(void) { return 0; }
 
@@ -144,7 +148,7 @@ int main(int words, char **word)
     for (uint64_t times = strtoull(word[3], 0, 10); times > 0; times--)
         if (!accepted(work))
             return 1;
-    if (strcmp(word[1], "tick") == 0 && strcmp(word[2], "none") != 0 && record[0] != STAGED)
+    if (strcmp(word[1], "tick") == 0 && strcmp(word[2], "none") != 0 && record[device_at(MODULE)] != STAGED)
         return 1;
     return 0;
 }
