@@ -159,6 +159,14 @@ def proved_crate(crate, folder=None):
     return runner() + [str(path)]
 
 
+def salvage():
+    """The command that saves a clean log of a damaged one, which has its own way to write that."""
+    path = ROOT / "bin" / "salvage"
+    if not path.is_file():
+        raise Unready("there is no bin/salvage")
+    return [str(path)]
+
+
 def library():
     """The static library of crate abi, made anew where something under crates/ is newer."""
     finish([str(ROOT / "tools" / "library")])
