@@ -55,7 +55,7 @@ PAIR = ("ship", "laptop")
 
 
 # The files of the independent program that are compiled for it, main's last.
-INDEPENDENT = ("module", "image", "image_files", "compare", "salvage", "report", "replay")
+INDEPENDENT = ("module", "store", "image", "image_files", "compare", "salvage", "history", "report", "replay")
 
 
 # The program behind bin/image, which takes no logs: its crate. tests/stdout writes that crate's files too, and tests/images tries it.

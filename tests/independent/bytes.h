@@ -9,7 +9,9 @@ typedef __UINT16_TYPE__ uint16_t;
 typedef __UINT32_TYPE__ uint32_t;
 typedef __UINT64_TYPE__ uint64_t;
 typedef __INT32_TYPE__ int32_t;
+typedef __INT64_TYPE__ int64_t;
 typedef __SIZE_TYPE__ size_t;
+#define NULL ((void *)0)
 #define bool _Bool
 #define true 1
 #define false 0

@@ -166,15 +166,16 @@ static uint32_t get_threshold(const struct device *device, uint8_t *answer)
     return DONE;
 }
 
+bool settings_good(const uint8_t *settings)
+{
+    return get16(settings) <= ENABLE_ALL /* no reserved bit */ && settings[2] <= SPARE_MOST;
+}
+
 static uint32_t set_threshold(struct device *device, const uint8_t *request)
 {
-    uint16_t enable = get16(request);
-
-    if (enable > ENABLE_ALL) /* reserved bits */
+    if (!settings_good(request))
         return INVALID;
-    if (request[2] > SPARE_MOST)
-        return INVALID;
-    device->enable = enable;
+    device->enable = get16(request);
     device->spare = request[2];
     device->media = get16(request + 3);
     device->controller = get16(request + 5);
@@ -495,18 +496,26 @@ static uint32_t serve(struct cabinet *cabinet, uint64_t module, uint8_t *area, u
     }
 }
 
-int32_t modules_call(struct cabinet *cabinet, uint8_t *area, size_t area_len, uint64_t module,
-                     uint64_t revision, uint64_t function, const uint8_t *request,
-                     size_t request_len, uint8_t *answer, size_t answer_len)
+int32_t modules_call(struct cabinet *cabinet, uint8_t *area, size_t area_len, uint8_t *store,
+                     size_t store_len, uint64_t module, uint64_t revision, uint64_t function,
+                     const uint8_t *request, size_t request_len, uint8_t *answer,
+                     size_t answer_len)
 {
+    bool sets = function == SET_THRESHOLD; /* it alone is lent the store, at any revision */
+    uint32_t latest = 0;
+
     if (answer_len < ANSWER_LEAST)
         return R1;
     if (area_len != AREA_BYTES)
         return R2;
+    if (sets && store_len != STORE_BYTES)
+        return R6;
     if (module >= MODULES)
         return R5;
     if (!modules_possible(cabinet))
         return R3;
+    if (sets && !store_well_formed(store, &latest))
+        return R7;
     if (function == 0) {
         put32(answer, served_mask(revision));
         return 4;
@@ -518,8 +527,66 @@ int32_t modules_call(struct cabinet *cabinet, uint8_t *area, size_t area_len, ui
     int32_t length = answer_bytes(function);
     size_t least = request_bytes(function);
     bool fits = function == SEND ? request_len >= least : request_len == least;
+    if (sets && fits && settings_good(request)) {
+        if (latest == VERSION_LAST)
+            return R9;
+        store_add(store, latest, request);
+    }
     memset(answer, 0, (size_t)length);
     put32(answer, fits ? serve(cabinet, module, area, function, request, request_len, answer)
                        : INVALID);
     return length;
+}
+
+/* ---- Settings from before ---- */
+
+/* What showing and going back look at alike. The settings of a version are then given back, a copy
+ * of them: going back may write their place. */
+static int32_t look_up(const struct cabinet *cabinet, size_t area_len, const uint8_t *store,
+                       size_t store_len, uint64_t module, uint32_t version,
+                       uint8_t settings[SETTINGS_BYTES])
+{
+    uint32_t latest;
+
+    if (area_len != AREA_BYTES)
+        return R2;
+    if (store_len != STORE_BYTES)
+        return R6;
+    if (module >= MODULES)
+        return R5;
+    if (!modules_possible(cabinet))
+        return R3;
+    if (!store_well_formed(store, &latest))
+        return R7;
+    const uint8_t *held = store_held(store, latest, version);
+    if (held == NULL)
+        return R8;
+    memcpy(settings, held, SETTINGS_BYTES);
+    return 0;
+}
+
+int64_t modules_show(const struct cabinet *cabinet, const uint8_t *area, size_t area_len,
+                     const uint8_t *store, size_t store_len, uint64_t module, uint32_t version)
+{
+    uint8_t settings[8] = {0};
+    int32_t refused = look_up(cabinet, area_len, store, store_len, module, version, settings);
+
+    (void)area;
+    return refused != 0 ? refused : (int64_t)get64(settings);
+}
+
+int32_t modules_go_back(struct cabinet *cabinet, const uint8_t *area, size_t area_len,
+                        uint8_t *store, size_t store_len, uint64_t module, uint32_t version,
+                        uint8_t *answer, size_t answer_len)
+{
+    uint8_t settings[SETTINGS_BYTES];
+
+    if (answer_len < ANSWER_LEAST)
+        return R1;
+    int32_t refused = look_up(cabinet, area_len, store, store_len, module, version, settings);
+    if (refused != 0)
+        return refused;
+    /* the area is not written by a Set Threshold */
+    return modules_call(cabinet, (uint8_t *)area, area_len, store, store_len, module, 2,
+                        SET_THRESHOLD, settings, sizeof settings, answer, answer_len);
 }

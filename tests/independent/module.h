@@ -1,10 +1,12 @@
 /* The cabinet: two persistent memory modules, which share the staging area and the context
  * numbers, and what a call, a tick, a power cycle and a health reading do to them. "01" in a
- * comment is the rules page, document 01; the cabinet is document 02's, T-09. */
+ * comment is the rules page, document 01; the cabinet is document 02's, T-09, and each module's
+ * store of thresholds, T-12. */
 #ifndef MODULE_H
 #define MODULE_H
 
 #include "bytes.h"
+#include "store.h"
 
 enum phase { IDLE, RECEIVING, VERIFYING, STAGED, FAILED };
 
@@ -28,7 +30,7 @@ enum {
 enum fault { NO_FAULT, SIZE_FAULT, NUMBER_FAULT, COUNT_FAULT, VERSION_FAULT, SUM_FAULT };
 
 /* The refusals that give no answer bytes. */
-enum { R1 = -1, R2 = -2, R3 = -3, R4 = -4, R5 = -5 };
+enum { R1 = -1, R2 = -2, R3 = -3, R4 = -4, R5 = -5, R6 = -6, R7 = -7, R8 = -8, R9 = -9 };
 
 /* 01, "The device record", of one module. */
 struct device {
@@ -83,11 +85,26 @@ struct image_check {
 
 struct image_check image_check(const uint8_t *image, size_t length);
 
-/* The length of the answer written, or R1, R2, R5 or R3 with nothing written.
- * The buffers must not overlap. */
-int32_t modules_call(struct cabinet *cabinet, uint8_t *area, size_t area_len, uint64_t module,
-                     uint64_t revision, uint64_t function, const uint8_t *request,
-                     size_t request_len, uint8_t *answer, size_t answer_len);
+/* Whether Set Threshold accepts these seven bytes. */
+bool settings_good(const uint8_t *settings);
+
+/* The length of the answer written, or R1, R2, R5 or R3 with nothing written; for Set Threshold
+ * also R6 after R2, R7 after R3, and R9 after all else. Its store is the module's own, and no other
+ * function looks at it. The buffers must not overlap. */
+int32_t modules_call(struct cabinet *cabinet, uint8_t *area, size_t area_len, uint8_t *store,
+                     size_t store_len, uint64_t module, uint64_t revision, uint64_t function,
+                     const uint8_t *request, size_t request_len, uint8_t *answer,
+                     size_t answer_len);
+
+/* The settings of a version as one number, lowest byte first, or R2, R6, R5, R3, R7 or R8. */
+int64_t modules_show(const struct cabinet *cabinet, const uint8_t *area, size_t area_len,
+                     const uint8_t *store, size_t store_len, uint64_t module, uint32_t version);
+
+/* A Set Threshold with the settings of a version: 4, the length of its answer, or R1, R2, R6, R5,
+ * R3, R7, R8 or R9 with nothing written. */
+int32_t modules_go_back(struct cabinet *cabinet, const uint8_t *area, size_t area_len,
+                        uint8_t *store, size_t store_len, uint64_t module, uint32_t version,
+                        uint8_t *answer, size_t answer_len);
 
 /* 0, or R2 or R3 with nothing written. A tick reaches both modules. */
 int32_t modules_tick(struct cabinet *cabinet, const uint8_t *area, size_t area_len);

@@ -108,16 +108,39 @@ static int32_t kept(int32_t result, const struct cabinet *cabinet, uint8_t *reco
     return result;
 }
 
-int32_t independent_call(uint8_t *record, size_t record_len, uint8_t *area, size_t area_len,
-                         uint64_t module, uint64_t revision, uint64_t function,
-                         const uint8_t *request, size_t request_len, uint8_t *answer,
-                         size_t answer_len)
+int32_t independent_call_with_store(uint8_t *record, size_t record_len, uint8_t *area,
+                                    size_t area_len, uint8_t *store, size_t store_len,
+                                    uint64_t module, uint64_t revision, uint64_t function,
+                                    const uint8_t *request, size_t request_len, uint8_t *answer,
+                                    size_t answer_len)
 {
     struct cabinet cabinet;
 
     record_decode(record, record_len, &cabinet);
-    return kept(modules_call(&cabinet, area, area_len, module, revision, function, request,
-                             request_len, answer, answer_len),
+    return kept(modules_call(&cabinet, area, area_len, store, store_len, module, revision,
+                             function, request, request_len, answer, answer_len),
+                &cabinet, record);
+}
+
+int64_t independent_show(const uint8_t *record, size_t record_len, const uint8_t *area,
+                         size_t area_len, const uint8_t *store, size_t store_len,
+                         uint64_t module, uint32_t version)
+{
+    struct cabinet cabinet;
+
+    record_decode(record, record_len, &cabinet);
+    return modules_show(&cabinet, area, area_len, store, store_len, module, version);
+}
+
+int32_t independent_go_back(uint8_t *record, size_t record_len, const uint8_t *area,
+                            size_t area_len, uint8_t *store, size_t store_len, uint64_t module,
+                            uint32_t version, uint8_t *answer, size_t answer_len)
+{
+    struct cabinet cabinet;
+
+    record_decode(record, record_len, &cabinet);
+    return kept(modules_go_back(&cabinet, area, area_len, store, store_len, module, version,
+                                answer, answer_len),
                 &cabinet, record);
 }
 

@@ -23,10 +23,17 @@ bool record_decode(const uint8_t *record, size_t record_len, struct cabinet *cab
 
 /* As the functions of module.h; bytes that are no record give R3 in its place. */
 int32_t independent_fresh(uint8_t *record, size_t record_len);
-int32_t independent_call(uint8_t *record, size_t record_len, uint8_t *area, size_t area_len,
-                         uint64_t module, uint64_t revision, uint64_t function,
-                         const uint8_t *request, size_t request_len, uint8_t *answer,
-                         size_t answer_len);
+int32_t independent_call_with_store(uint8_t *record, size_t record_len, uint8_t *area,
+                                    size_t area_len, uint8_t *store, size_t store_len,
+                                    uint64_t module, uint64_t revision, uint64_t function,
+                                    const uint8_t *request, size_t request_len, uint8_t *answer,
+                                    size_t answer_len);
+int64_t independent_show(const uint8_t *record, size_t record_len, const uint8_t *area,
+                         size_t area_len, const uint8_t *store, size_t store_len,
+                         uint64_t module, uint32_t version);
+int32_t independent_go_back(uint8_t *record, size_t record_len, const uint8_t *area,
+                            size_t area_len, uint8_t *store, size_t store_len, uint64_t module,
+                            uint32_t version, uint8_t *answer, size_t answer_len);
 int32_t independent_tick(uint8_t *record, size_t record_len, const uint8_t *area,
                          size_t area_len);
 int32_t independent_power(uint8_t *record, size_t record_len, const uint8_t *area,

@@ -1,17 +1,18 @@
-/* Replays call logs, each from two fresh modules and an area of zeros.
+/* Replays call logs, each from two fresh modules, their stores empty, and an area of zeros.
  *
  *    independent replay FILE..    the replay text of document 01
  *    independent answers FILE..   every answer's bytes, then the whole end state
  *    independent report FILE..    one report over all logs: which host got which answers
  *
- * The program's other words, compare, salvage and image, are done in compare.c, salvage.c and
- * image_files.c.
+ * The program's other words, compare, salvage, history and image, are done in compare.c, salvage.c,
+ * history.c and image_files.c.
  */
 #include <stdio.h>
 #include <stdlib.h>
 
 #include "compare.h"
 #include "files.h"
+#include "history.h"
 #include "image_files.h"
 #include "log.h"
 #include "module.h"
@@ -26,7 +27,9 @@ struct replay {
     uint64_t place;
     struct cabinet cabinet;
     uint8_t area[AREA_BYTES];
-    int32_t length; /* of the last call's answer */
+    uint8_t stores[MODULES][STORE_BYTES];
+    uint32_t latest; /* the version that each store begins with, 0 for an empty one */
+    int32_t length;  /* of the last call's answer; R9 has none, and any other has bytes */
     uint8_t answer[ANSWER_LEAST];
     uint64_t counts[COUNTS]; /* this log's; a log has fewer records than 64 bits can count */
     uint32_t report[COUNTS]; /* that of the logs before it */
@@ -100,8 +103,9 @@ static void write_bytes(const char *name, const uint8_t *bytes, size_t length)
 
 /* ---- One log record ---- */
 
-/* No R number can come: the buffers have the right sizes, a module over 1 makes a record bad, and
- * every step leaves a possible cabinet. There is no line for one, so stop if that is ever wrong. */
+/* No R number but R9 can come: the buffers have the right sizes, a module over 1 makes a record bad,
+ * and every step leaves a possible cabinet and well-formed stores. There is no line for one, so stop
+ * if that is ever wrong. */
 static int32_t no_refusal(int32_t result)
 {
     if (result < 0)
@@ -109,18 +113,27 @@ static int32_t no_refusal(int32_t result)
     return result;
 }
 
-/* Plays a record, and tells its kind. A call's answer is then the replay's. */
+/* A call's answer is then the replay's. */
+static void play_call(struct replay *replay, const uint8_t *record)
+{
+    unsigned module = module_of(record);
+    int32_t result = modules_call(&replay->cabinet, replay->area, AREA_BYTES,
+                                  replay->stores[module], STORE_BYTES, module,
+                                  get16(record + REVISION_AT), get16(record + FUNCTION_AT),
+                                  record + REQUEST_AT, get16(record + LENGTH_AT), replay->answer,
+                                  sizeof replay->answer);
+
+    replay->length = result == R9 ? 0 : no_refusal(result);
+}
+
+/* Plays a record, and tells its kind. */
 static enum kind play(struct replay *replay, const uint8_t *record)
 {
     enum kind kind = kind_of(record);
 
     switch (kind) {
     case CALL:
-        replay->length = no_refusal(
-            modules_call(&replay->cabinet, replay->area, AREA_BYTES, module_of(record),
-                         get16(record + REVISION_AT), get16(record + FUNCTION_AT),
-                         record + REQUEST_AT, get16(record + LENGTH_AT), replay->answer,
-                         sizeof replay->answer));
+        play_call(replay, record);
         break;
     case TICK:
         no_refusal(modules_tick(&replay->cabinet, replay->area, AREA_BYTES));
@@ -145,6 +158,8 @@ static char *put_answer(const struct replay *replay, const uint8_t *record, char
         return put_hex(at, replay->answer, (size_t)replay->length);
     if (get16(record + FUNCTION_AT) == 0)
         return put_text(at, "- - 4");
+    if (replay->length == 0)
+        return put_text(at, "9 0 0"); /* R9 */
     at = put_number(at, get16(replay->answer));
     at = put_number(put_text(at, " "), get16(replay->answer + 2));
     return put_number(put_text(at, " "), (uint64_t)replay->length);
@@ -183,7 +198,7 @@ static size_t count_of(const struct replay *replay, const uint8_t *record, enum 
     case CALL:
         if (get16(record + FUNCTION_AT) == 0)
             return FUNCTION_0;
-        return report_cell(host_of(record), get16(replay->answer));
+        return report_cell(host_of(record), replay->length == 0 ? 9 : get16(replay->answer));
     case TICK:
         return TICKS;
     case POWER:
@@ -208,10 +223,22 @@ static void step(struct replay *replay, const uint8_t *record)
 
 /* ---- One log ---- */
 
+/* The store that so many Set Thresholds of zeros leave. */
+static void begin_store(uint8_t *store, uint32_t latest)
+{
+    static const uint8_t zeros[SETTINGS_BYTES];
+
+    memset(store, 0, STORE_BYTES);
+    for (uint32_t before = latest > PLACES ? latest - PLACES : 0; before < latest; before++)
+        store_add(store, before, zeros);
+}
+
 static void begin(struct replay *replay)
 {
     replay->place = 0;
     modules_fresh(&replay->cabinet);
+    for (unsigned module = 0; module < MODULES; module++)
+        begin_store(replay->stores[module], replay->latest);
     memset(replay->area, 0, AREA_BYTES);
     if (replay->text == REPLAY)
         fputs("record kind status ext length\n", stdout);
@@ -229,16 +256,16 @@ static void tail(struct replay *replay)
         write_line(line, put_text(put_number(line, replay->place), " short"));
 }
 
-static void write_module(const struct cabinet *cabinet, unsigned module)
+static void write_module(const struct replay *replay, unsigned module)
 {
-    const struct device *device = &cabinet->modules[module];
+    const struct device *device = &replay->cabinet.modules[module];
     const uint16_t fault[] = {device->fault, device->fault_record};
     const uint16_t reading[] = {device->read_spare, device->read_media, device->read_controller};
     char line[24];
 
     write_field("module ", module);
     write_line(line, put_text(put_text(line, "phase "), phase_names[device->phase]));
-    write_field("contexts ", cabinet->contexts);
+    write_field("contexts ", replay->cabinet.contexts);
     write_field("current ", device->current);
     write_field("received ", device->received);
     write_field("ticks ", device->ticks);
@@ -256,6 +283,7 @@ static void write_module(const struct cabinet *cabinet, unsigned module)
     write_fields("fault", fault, 2);
     write_fields("reading", reading, 3);
     write_field("trips ", device->trips);
+    write_bytes("store ", replay->stores[module], STORE_BYTES);
 }
 
 /* The replay's last line of a module, with the contexts that both have been given. */
@@ -283,7 +311,7 @@ static const char *end(struct replay *replay)
         break;
     case ANSWERS:
         for (unsigned module = 0; module < MODULES; module++)
-            write_module(&replay->cabinet, module);
+            write_module(replay, module);
         write_bytes("area ", replay->area, AREA_BYTES);
         break;
     case REPORT:
@@ -351,14 +379,16 @@ static bool get_number(const char *text, uint64_t most, uint64_t *number)
 static int misused(void)
 {
     fputs("independent: not understood\n"
-          "usage: independent replay FILE..\n"
-          "       independent answers FILE..\n"
-          "       independent report [--from NUMBER] FILE..\n"
+          "usage: independent replay [--latest VERSION] FILE..\n"
+          "       independent answers [--latest VERSION] FILE..\n"
+          "       independent report [--latest VERSION] [--from NUMBER] FILE..\n"
           "       independent compare FILE FILE\n"
           "       independent salvage FILE CLEAN\n"
+          "       independent history FILE [VERSION]\n"
           "       independent image make VERSION FILE\n"
           "       independent image read FILE\n"
-          "A FILE of - is standard input. Every count of a report begins at NUMBER, or at 0.\n",
+          "A FILE of - is standard input. Every count of a report begins at NUMBER, or at 0; each\n"
+          "module's store at VERSION, with settings of zeros up to it, or empty.\n",
           stderr);
     return 2;
 }
@@ -382,10 +412,34 @@ static int compare(int count, char **arguments)
     return compare_files(arguments[2], arguments[3]);
 }
 
+static int history(int count, char **arguments)
+{
+    uint64_t version;
+
+    if (count == 3)
+        return history_file(arguments[2], NULL);
+    if (count == 4 && get_number(arguments[3], VERSION_LAST, &version))
+        return history_file(arguments[2], &version);
+    return misused();
+}
+
+/* Takes an option and its number, of at most 32 bits, off the words from `first` on. False where it
+ * is there and no file follows, or no such number. */
+static bool take_number(int count, char **arguments, const char *option, int *first,
+                        uint64_t *number)
+{
+    if (*first >= count || strcmp(arguments[*first], option) != 0)
+        return true;
+    if (*first + 2 >= count || !get_number(arguments[*first + 1], COUNT_MOST, number))
+        return false;
+    *first += 2;
+    return true;
+}
+
 int main(int count, char **arguments)
 {
     static struct replay replay;
-    uint64_t from = 0;
+    uint64_t from = 0, latest = 0;
     int first = 2;
     int status = 0;
 
@@ -397,6 +451,8 @@ int main(int count, char **arguments)
         return compare(count, arguments);
     if (strcmp(arguments[1], "salvage") == 0)
         return count == 4 ? salvage_file(arguments[2], arguments[3]) : misused();
+    if (strcmp(arguments[1], "history") == 0)
+        return history(count, arguments);
     if (strcmp(arguments[1], "replay") == 0)
         replay.text = REPLAY;
     else if (strcmp(arguments[1], "answers") == 0)
@@ -405,11 +461,10 @@ int main(int count, char **arguments)
         replay.text = REPORT;
     else
         return misused();
-    if (replay.text == REPORT && strcmp(arguments[2], "--from") == 0) {
-        if (count < 5 || !get_number(arguments[3], COUNT_MOST, &from))
-            return misused();
-        first = 4;
-    }
+    if (!take_number(count, arguments, "--latest", &first, &latest)
+        || (replay.text == REPORT && !take_number(count, arguments, "--from", &first, &from)))
+        return misused();
+    replay.latest = (uint32_t)latest;
     report_begin(replay.report, (uint32_t)from);
     for (int i = first; i < count; i++)
         if (!replay_file(&replay, arguments[i]))
