@@ -3,19 +3,23 @@
  *     count WHAT SIDE TIMES
  *
  * WHAT is send (a Send of 512 bytes), info (a Get FW Info), health (function 1, all three alarms on), reading (a health reading),
- * tick (the tick that verifies an image of 16,384 bytes), keep (the record written to its slot, and that selected) or read (the
- * record read from its slot); SIDE is library, independent, or none, which makes no call: what is left is the work around the
- * calls. */
+ * tick (the tick that verifies an image of 16,384 bytes), set (a Set Threshold on a store of 64 versions), show (its latest version
+ * shown), back (its oldest gone back to), keep (the record written to its slot, and that selected) or read (the record read from its
+ * slot); SIDE is library, independent, or none, which makes no call: what is left is the work around the calls. */
 #include <stdlib.h>
 #include <string.h>
 
 #include "../../include/module.h"
 #include "../independent/slots.h"
 
-enum { MODULE = 1 }; /* the one that is called; the other is fresh */
+enum { MODULE = 1 };    /* the one that is called; the other is fresh */
+enum { VERSIONS = 100 }; /* in its store, of which the last 64 are held */
 
 static uint8_t before[MODULE_RECORD_SIZE], record[MODULE_RECORD_SIZE], area[MODULE_AREA_SIZE];
 static uint8_t request[MODULE_SEND_HEAD + MODULE_PIECE_MOST], answer[MODULE_ANSWER_LEAST], slots[MODULE_SLOTS_SIZE];
+static uint8_t store[MODULE_STORE_SIZE];
+static const uint8_t settings[MODULE_SETTINGS_SIZE] = {5, 0, 20, 0x30, 2, 0x10, 0x80};
+static uint32_t oldest = VERSIONS - MODULE_STORE_PLACES + 1;
 
 static void make_image(void)
 {
@@ -54,6 +58,8 @@ static void prepare(const char *what)
         device->ticks = 1;
     }
     record_encode(&cabinet, before);
+    for (uint32_t version = 0; version < VERSIONS; version++)
+        store_add(store, version, settings);
     memset(request, 'x', sizeof request);
     put32(request, 1);
     put32(request + 4, 0);
@@ -61,35 +67,46 @@ static void prepare(const char *what)
 }
 
 /* Each call as it is made, its arguments included. */
-static int32_t library_send(void)
+static inline int32_t by_library(uint64_t function, const uint8_t *sent, size_t length)
 {
-    return cabinet_call(record, sizeof record, area, sizeof area, MODULE, 2, MODULE_SEND, request, sizeof request, answer, sizeof answer);
+    return cabinet_call_with_store(record, sizeof record, area, sizeof area, store, sizeof store, MODULE, 2, function, sent, length,
+                                   answer, sizeof answer);
 }
 
-static int32_t independent_send(void)
+static inline int32_t by_independent(uint64_t function, const uint8_t *sent, size_t length)
 {
-    return independent_call(record, sizeof record, area, sizeof area, MODULE, 2, MODULE_SEND, request, sizeof request, answer,
-                            sizeof answer);
+    return independent_call_with_store(record, sizeof record, area, sizeof area, store, sizeof store, MODULE, 2, function, sent,
+                                       length, answer, sizeof answer);
 }
 
-static int32_t library_info(void)
+static int32_t library_send(void) { return by_library(MODULE_SEND, request, sizeof request); }
+static int32_t independent_send(void) { return by_independent(MODULE_SEND, request, sizeof request); }
+static int32_t library_info(void) { return by_library(MODULE_GET_FW_INFO, request, 0); }
+static int32_t independent_info(void) { return by_independent(MODULE_GET_FW_INFO, request, 0); }
+static int32_t library_health(void) { return by_library(MODULE_GET_HEALTH, request, 0); }
+static int32_t independent_health(void) { return by_independent(MODULE_GET_HEALTH, request, 0); }
+static int32_t library_set(void) { return by_library(MODULE_SET_THRESHOLD, settings, sizeof settings); }
+static int32_t independent_set(void) { return by_independent(MODULE_SET_THRESHOLD, settings, sizeof settings); }
+
+static int32_t library_show(void)
 {
-    return cabinet_call(record, sizeof record, area, sizeof area, MODULE, 2, MODULE_GET_FW_INFO, request, 0, answer, sizeof answer);
+    return cabinet_show(record, sizeof record, area, sizeof area, store, sizeof store, MODULE, VERSIONS) < 0 ? -1 : 0;
 }
 
-static int32_t independent_info(void)
+static int32_t independent_shown(void)
 {
-    return independent_call(record, sizeof record, area, sizeof area, MODULE, 2, MODULE_GET_FW_INFO, request, 0, answer, sizeof answer);
+    return independent_show(record, sizeof record, area, sizeof area, store, sizeof store, MODULE, VERSIONS) < 0 ? -1 : 0;
 }
 
-static int32_t library_health(void)
+static int32_t library_back(void)
 {
-    return cabinet_call(record, sizeof record, area, sizeof area, MODULE, 2, MODULE_GET_HEALTH, request, 0, answer, sizeof answer);
+    return cabinet_go_back(record, sizeof record, area, sizeof area, store, sizeof store, MODULE, oldest++, answer, sizeof answer);
 }
 
-static int32_t independent_health(void)
+static int32_t independent_back(void)
 {
-    return independent_call(record, sizeof record, area, sizeof area, MODULE, 2, MODULE_GET_HEALTH, request, 0, answer, sizeof answer);
+    return independent_go_back(record, sizeof record, area, sizeof area, store, sizeof store, MODULE, oldest++, answer,
+                               sizeof answer);
 }
 
 static int32_t library_reading(void) { return cabinet_reading(record, sizeof record, area, sizeof area, MODULE, 80, 640, 0x8018); }
@@ -125,6 +142,9 @@ static const struct work {
     {"health", "library", library_health},   {"health", "independent", independent_health},        {"health", "none", none},
     {"reading", "library", library_reading}, {"reading", "independent", independent_sensors},      {"reading", "none", none},
     {"tick", "library", library_tick},       {"tick", "independent", independent_ticked},          {"tick", "none", none},
+    {"set", "library", library_set},         {"set", "independent", independent_set},              {"set", "none", none},
+    {"show", "library", library_show},       {"show", "independent", independent_shown},           {"show", "none", none},
+    {"back", "library", library_back},       {"back", "independent", independent_back},            {"back", "none", none},
     {"keep", "library", library_keep},       {"keep", "independent", independent_keep},            {"keep", "none", none},
     {"read", "library", library_read},       {"read", "independent", independent_read},            {"read", "none", none},
 };

@@ -2,8 +2,8 @@
  *
  *     random SEED COUNT
  *
- * Each turn takes a record of both modules, one module's from before, an area, a request, an answer buffer and slots, gives both
- * sides their own copies of the same bytes and the same module, and compares what they answer and every byte afterwards, guards
+ * Each turn takes a record of both modules, one module's from before, an area, a store, a request, an answer buffer and slots, gives
+ * both sides their own copies of the same bytes and the same module, and compares what they answer and every byte afterwards, guards
  * included. The first difference is printed, and the exit status is then 1; so it is where a run of LONG turns or more never
  * reached what such a run must. */
 #include <stdio.h>
@@ -48,8 +48,8 @@ struct buffer {
 };
 
 static struct buffer record = {.name = "record"}, area = {.name = "area"}, request = {.name = "request"},
-                     answer = {.name = "answer"}, slots = {.name = "slots"}, old = {.name = "old record"};
-static struct buffer *const buffers[] = {&record, &area, &request, &answer, &slots, &old};
+                     answer = {.name = "answer"}, slots = {.name = "slots"}, old = {.name = "old record"}, store = {.name = "store"};
+static struct buffer *const buffers[] = {&record, &area, &request, &answer, &slots, &old, &store};
 enum { BUFFERS = sizeof buffers / sizeof *buffers };
 
 static uint8_t *mine(struct buffer *buffer) { return buffer->was + buffer->at; }
@@ -421,6 +421,132 @@ static void choose_area(unsigned anew)
     renew(&area, percent(80) ? MODULE_AREA_SIZE : odd_length(MODULE_AREA_SIZE));
 }
 
+/* ---- Stores ---- */
+
+/* What a store can have wrong; with some of it it may be well formed all the same. */
+enum bad_store {
+    GOOD_STORE,
+    A_PLACE_ON,
+    VERSIONS_FROM_0,
+    OFF_BY_64,
+    OFF_BY_ONE,
+    BYTE_BEHIND,
+    BYTE_ELSEWHERE,
+    RESERVED_ENABLE,
+    SPARE_IN_STORE,
+    ONE_MISSING,
+    ONE_BEYOND,
+    ANY_BIT,
+    ANY_BYTES,
+    BAD_STORES
+};
+
+static enum bad_store bad_store;
+static uint32_t latest; /* the version that the store was made with, or went on to */
+
+static uint8_t *place(uint64_t number) { return mine(&store) + number % PLACES * PLACE_BYTES; }
+
+static void put_settings(uint8_t *at)
+{
+    put(at, 2, below(8));
+    at[2] = (uint8_t)below(101);
+    put(at + 3, 2, word_near(0));
+    put(at + 5, 2, word_near(0));
+}
+
+/* Empty, few versions, 64 or nearly, or any number of them up to the last. */
+static uint32_t choose_latest(void)
+{
+    switch (below(8)) {
+    case 0: return 0;
+    case 1: return 1 + (uint32_t)below(4);
+    case 2: return (uint32_t)below(64);
+    case 3: return 62 + (uint32_t)below(5);
+    case 4: return 126 + (uint32_t)below(5);
+    case 5: return VERSION_LAST;
+    case 6: return VERSION_LAST - (percent(40) ? 1 : (uint32_t)below(140));
+    default: return (uint32_t)(next() >> (32 + below(32)));
+    }
+}
+
+static void make_store(void)
+{
+    latest = choose_latest();
+    renew(&store, STORE_BYTES);
+    memset(mine(&store), 0, STORE_BYTES);
+    for (uint64_t version = latest > PLACES ? latest - PLACES + 1 : 1; version <= latest; version++) {
+        put(place(version - 1), 4, version);
+        put_settings(place(version - 1) + 4);
+    }
+}
+
+/* A place that holds a version, if there is one; else any. */
+static uint8_t *held_place(void)
+{
+    return place(latest == 0 || latest >= PLACES ? below(PLACES) : below(latest));
+}
+
+static void spoil_store(void)
+{
+    uint8_t *held = held_place(), places[STORE_BYTES];
+
+    bad_store = A_PLACE_ON + below(ANY_BYTES);
+    switch (bad_store) {
+    case A_PLACE_ON:
+        memcpy(places, mine(&store), STORE_BYTES);
+        for (uint64_t i = 0; i < PLACES; i++)
+            memcpy(place(i + 1), places + i * PLACE_BYTES, PLACE_BYTES);
+        break;
+    case VERSIONS_FROM_0:
+        for (uint64_t i = 0; i < PLACES; i++)
+            if (get32(place(i)) > 0)
+                put(place(i), 4, get32(place(i)) - 1);
+        break;
+    case OFF_BY_64: put(held, 4, get32(held) + (percent(50) ? 64 : 0 - (uint64_t)64)); break;
+    case OFF_BY_ONE: put(held, 4, get32(held) + (percent(50) ? 1 : 0 - (uint64_t)1)); break;
+    case BYTE_BEHIND: held[11 + below(21)] ^= (uint8_t)(1 << below(8)); break;
+    case BYTE_ELSEWHERE: place(latest + below(PLACES - latest % PLACES))[below(PLACE_BYTES)] ^= (uint8_t)(1 << below(8)); break;
+    case RESERVED_ENABLE: put(held + 4, 2, get16(held + 4) | 8u << below(13)); break;
+    case SPARE_IN_STORE: held[6] = (uint8_t)(percent(50) ? 101 : 101 + below(155)); break;
+    case ONE_MISSING: memset(held, 0, PLACE_BYTES); break;
+    case ONE_BEYOND:
+        put(place(latest + 1), 4, latest + 2);
+        put_settings(place(latest + 1) + 4);
+        break;
+    case ANY_BIT: mine(&store)[below(STORE_BYTES)] ^= (uint8_t)(1 << below(8)); break;
+    default:
+        bad_store = ANY_BYTES;
+        fill(mine(&store), STORE_BYTES);
+    }
+}
+
+/* A store that goes on from the last turn, or another; now and then damaged, or of another length. */
+static void choose_store(void)
+{
+    bad_store = GOOD_STORE;
+    if (store.length != STORE_BYTES || !store_well_formed(mine(&store), &latest) || percent(50)) {
+        make_store();
+        if (percent(25))
+            spoil_store();
+    }
+    if (percent(area.length != MODULE_AREA_SIZE ? 30 : 4))
+        store.length = odd_length(STORE_BYTES);
+}
+
+/* A version that is held, or nearly, or any. */
+static uint32_t choose_version(void)
+{
+    switch (below(8)) {
+    case 0: return latest;
+    case 1: return latest - 63;
+    case 2: return latest - 64;
+    case 3: return latest + 1;
+    case 4: return (uint32_t)below(3);
+    case 5: return (uint32_t)next();
+    default: return latest - (uint32_t)below(64);
+    }
+}
+
 /* ---- Slots ---- */
 
 /* Slots that go on from the last turn, or random ones, now and then with another selector or of another length. */
@@ -529,14 +655,29 @@ static void choose_request(uint64_t function)
 
 /* ---- One turn ---- */
 
-enum event { FRESH, CALL, TICK, POWER, READING, ADOPT, SLOTS_FRESH, SLOTS_WRITE, SLOTS_SELECT, SLOTS_READ, EVENTS };
+enum event {
+    FRESH,
+    CALL,
+    TICK,
+    POWER,
+    READING,
+    SHOW,
+    GO_BACK,
+    ADOPT,
+    SLOTS_FRESH,
+    SLOTS_WRITE,
+    SLOTS_SELECT,
+    SLOTS_READ,
+    EVENTS
+};
 
 struct turn {
     enum event event;
     uint64_t module, revision, function, slot;
+    uint32_t version;
     uint8_t spare;
     uint16_t media, controller;
-    int32_t given[SIDES];
+    int64_t given[SIDES];
 };
 
 /* Modules 0 and 1, or any other number: the next, one that is 0 or 1 in its low bits, or a huge one. */
@@ -549,7 +690,7 @@ static uint64_t choose_module(void)
 
 static uint64_t choose_function(void)
 {
-    static const uint8_t served[] = {0, 1, 1, 2, 12, 13, 14, 14, 14, 14, 15, 15, 16, 16, 17, 19, 20, 20, 21, 22, 23};
+    static const uint8_t served[] = {0, 1, 1, 2, 12, 13, 14, 14, 14, 14, 15, 15, 16, 16, 17, 17, 17, 17, 19, 20, 20, 21, 22, 23};
     uint64_t function = served[below(sizeof served)];
 
     if (percent(94))
@@ -561,6 +702,8 @@ static uint64_t choose_revision(uint64_t function)
 {
     if (function == MODULE_GET_HEALTH && percent(40))
         return 1 + below(3);
+    if (function == MODULE_SET_THRESHOLD && percent(10))
+        return below(4);
     if (percent(92))
         return 2;
     return percent(60) ? 1 : percent(50) ? below(5) : percent(50) ? 2 + ((uint64_t)1 << (8 + below(56))) : next();
@@ -570,8 +713,10 @@ static enum event choose_event(void)
 {
     unsigned kind = (unsigned)below(100);
 
+    if (kind < 79)
+        return kind < 1 ? FRESH : kind < 58 ? CALL : kind < 69 ? TICK : kind < 73 ? POWER : READING;
     if (kind < 92)
-        return kind < 1 ? FRESH : kind < 65 ? CALL : kind < 79 ? TICK : kind < 83 ? POWER : kind < 90 ? READING : ADOPT;
+        return kind < 84 ? SHOW : kind < 90 ? GO_BACK : ADOPT;
     return kind < 93 ? SLOTS_FRESH : kind < 96 ? SLOTS_WRITE : kind < 98 ? SLOTS_SELECT : SLOTS_READ;
 }
 
@@ -591,8 +736,9 @@ static struct turn choose(void)
     bad_field = NOTHING;
     turn.module = choose_module();
     named = turn.module < MODULES ? (unsigned)turn.module : 0;
-    choose_area(turn.event == READING || turn.module >= MODULES ? 8 : 1);
+    choose_area(turn.event == READING || turn.event >= SHOW || turn.module >= MODULES ? 8 : 1);
     choose_record();
+    choose_store();
     if (turn.event == ADOPT)
         choose_old();
     choose_slots();
@@ -601,15 +747,17 @@ static struct turn choose(void)
     turn.function = choose_function();
     turn.revision = choose_revision(turn.function);
     choose_reading(&turn);
+    turn.version = choose_version();
     turn.slot = choose_slot();
     choose_request(turn.function);
     renew(&answer, percent(92) ? MODULE_ANSWER_LEAST + below(40) : below(MODULE_ANSWER_LEAST + 2));
     return turn;
 }
 
-static int32_t by_library(const struct turn *turn)
+static int64_t by_library(const struct turn *turn)
 {
     uint8_t *r = lent(&record, 0), *a = lent(&area, 0), *q = lent(&request, 0), *b = lent(&answer, 0), *s = lent(&slots, 0);
+    uint8_t *h = lent(&store, 0);
 
     switch (turn->event) {
     case FRESH: return cabinet_fresh(r, record.length);
@@ -617,20 +765,24 @@ static int32_t by_library(const struct turn *turn)
     case POWER: return cabinet_power(r, record.length, a, area.length, turn->module);
     case READING:
         return cabinet_reading(r, record.length, a, area.length, turn->module, turn->spare, turn->media, turn->controller);
+    case SHOW: return cabinet_show(r, record.length, a, area.length, h, store.length, turn->module, turn->version);
+    case GO_BACK:
+        return cabinet_go_back(r, record.length, a, area.length, h, store.length, turn->module, turn->version, b, answer.length);
     case ADOPT: return cabinet_adopt(lent(&old, 0), old.length, r, record.length);
     case SLOTS_FRESH: return slots_fresh(s, slots.length);
     case SLOTS_WRITE: return slots_write(s, slots.length, r, record.length);
     case SLOTS_SELECT: return slots_select(s, slots.length, turn->slot);
     case SLOTS_READ: return slots_read(s, slots.length, r, record.length);
     default:
-        return cabinet_call(r, record.length, a, area.length, turn->module, turn->revision, turn->function, q, request.length, b,
-                            answer.length);
+        return cabinet_call_with_store(r, record.length, a, area.length, h, store.length, turn->module, turn->revision,
+                                       turn->function, q, request.length, b, answer.length);
     }
 }
 
-static int32_t by_independent(const struct turn *turn)
+static int64_t by_independent(const struct turn *turn)
 {
     uint8_t *r = lent(&record, 1), *a = lent(&area, 1), *q = lent(&request, 1), *b = lent(&answer, 1), *s = lent(&slots, 1);
+    uint8_t *h = lent(&store, 1);
 
     switch (turn->event) {
     case FRESH: return independent_fresh(r, record.length);
@@ -638,14 +790,17 @@ static int32_t by_independent(const struct turn *turn)
     case POWER: return independent_power(r, record.length, a, area.length, turn->module);
     case READING:
         return independent_reading(r, record.length, a, area.length, turn->module, turn->spare, turn->media, turn->controller);
+    case SHOW: return independent_show(r, record.length, a, area.length, h, store.length, turn->module, turn->version);
+    case GO_BACK:
+        return independent_go_back(r, record.length, a, area.length, h, store.length, turn->module, turn->version, b, answer.length);
     case ADOPT: return independent_adopt(lent(&old, 1), old.length, r, record.length);
     case SLOTS_FRESH: return independent_slots_fresh(s, slots.length);
     case SLOTS_WRITE: return independent_slots_write(s, slots.length, r, record.length);
     case SLOTS_SELECT: return independent_slots_select(s, slots.length, turn->slot);
     case SLOTS_READ: return independent_slots_read(s, slots.length, r, record.length);
     default:
-        return independent_call(r, record.length, a, area.length, turn->module, turn->revision, turn->function, q, request.length,
-                                b, answer.length);
+        return independent_call_with_store(r, record.length, a, area.length, h, store.length, turn->module, turn->revision,
+                                           turn->function, q, request.length, b, answer.length);
     }
 }
 
@@ -670,6 +825,12 @@ static bool guarded(const struct buffer *buffer, int side)
         && memcmp(buffer->side[side] + behind, buffer->was + behind, GUARD) == 0;
 }
 
+/* Whether the turn may add to the store. */
+static bool sets(const struct turn *turn)
+{
+    return turn->event == GO_BACK || (turn->event == CALL && turn->function == MODULE_SET_THRESHOLD);
+}
+
 /* What is wrong with the turn, or NULL. */
 static const char *fault(const struct turn *turn, const struct buffer **where)
 {
@@ -689,10 +850,13 @@ static const char *fault(const struct turn *turn, const struct buffer **where)
     if (!untouched(&request, 0))
         return "the request was written";
     *where = &old;
-    return untouched(&old, 0) ? NULL : "the old record was written";
+    if (!untouched(&old, 0))
+        return "the old record was written";
+    *where = &store;
+    return sets(turn) || untouched(&store, 0) ? NULL : "the store was written";
 }
 
-static const char *const names[] = {"fresh",     "calls",       "ticks",       "power cycles", "readings",
+static const char *const names[] = {"fresh",     "calls",       "ticks",       "power cycles", "readings", "showings", "goings back",
                                     "adoptions", "slots_fresh", "slots_write", "slots_select", "slots_read"};
 
 static void show(const struct turn *turn, uint64_t number, const char *what, const struct buffer *where)
@@ -700,17 +864,18 @@ static void show(const struct turn *turn, uint64_t number, const char *what, con
     size_t i = 0;
 
     printf("turn %llu: %s (%s)\n", (unsigned long long)number, what, where->name);
-    printf("%s module %llu revision %llu function %llu slot %llu spare %u media %04x controller %04x: library %d, independent %d\n",
+    printf("%s module %llu revision %llu function %llu version %u slot %llu spare %u media %04x controller %04x: library %lld, "
+           "independent %lld\n",
            names[turn->event], (unsigned long long)turn->module, (unsigned long long)turn->revision,
-           (unsigned long long)turn->function, (unsigned long long)turn->slot, turn->spare, turn->media, turn->controller,
-           (int)turn->given[0], (int)turn->given[1]);
+           (unsigned long long)turn->function, (unsigned)turn->version, (unsigned long long)turn->slot, turn->spare, turn->media,
+           turn->controller, (long long)turn->given[0], (long long)turn->given[1]);
     while (i + 1 < whole(where) && where->side[0][i] == where->side[1][i])
         i++;
     printf("first byte that differs: %d: library %u, independent %u, before %u\n", (int)i - (int)where->at, where->side[0][i],
            where->side[1][i], where->was[i]);
     for (int b = 0; b < BUFFERS; b++) {
         printf("%s, %u bytes:", buffers[b]->name, (unsigned)buffers[b]->length);
-        for (i = 0; i < buffers[b]->length && i < SLOTS_BYTES; i++)
+        for (i = 0; i < buffers[b]->length && i < STORE_BYTES; i++)
             printf(" %02x", buffers[b]->was[buffers[b]->at + i]);
         printf("\n");
     }
@@ -718,7 +883,7 @@ static void show(const struct turn *turn, uint64_t number, const char *what, con
 
 /* ---- What came up ---- */
 
-enum { STATUS = 6, TRIPS = 8 }; /* kinds from STATUS on are statuses, or the slots' numbers; the trips byte has three bits */
+enum { STATUS = 10, TRIPS = 8 }; /* kinds from STATUS on are statuses, or the slots' numbers; the trips byte has three bits */
 
 static uint64_t tally[EVENTS][32], stagings[MODULES], failures[SUM_FAULT + 1], taken_over, left_alone;
 static uint64_t refused_fields[BAD_FIELDS][MODULES]; /* R3, by whether the named module's part was wrong or the other's */
@@ -748,6 +913,28 @@ enum special {
     R5_HUGE,
     OTHERS_PASSPHRASE,
     OTHERS_CONTEXT,
+    R1_OVER_R6,
+    R2_OVER_R6,
+    R6_OVER_R5,
+    R6_OVER_R3,
+    R5_OVER_R7,
+    R3_OVER_R7,
+    R7_OVER_STATUS_1,
+    R7_OVER_LENGTH,
+    R7_OVER_R8,
+    R8_OVER_R9,
+    STATUS_1_OVER_R9,
+    LENGTH_OVER_R9,
+    SPARE_OVER_R9,
+    ENABLE_OVER_R9,
+    NO_STORE,
+    FIRST_VERSION,
+    LAST_VERSION,
+    OVER_THE_OLDEST,
+    BACK_TO_THE_OLDEST,
+    BACK_TO_THE_LATEST,
+    JUST_GONE,
+    VERSION_0,
     SPECIALS
 };
 
@@ -763,13 +950,42 @@ static const char *const special_names[] = {"status 8, the other module has the 
                                             "R5, and the spare is over 100",
                                             "R5 for a module over 32 bits",
                                             "status 11 for the other module's passphrase",
-                                            "7/1 for the other module's context"};
+                                            "7/1 for the other module's context",
+                                            "R1, and the store is of another size",
+                                            "R2, and the store is of another size",
+                                            "R6, and the module is over 1",
+                                            "R6, and the record is not possible",
+                                            "R5, and the store is not well formed",
+                                            "R3, and the store is not well formed",
+                                            "R7, and the revision does not serve it",
+                                            "R7, and the request has another length",
+                                            "R7, and the version would not be held",
+                                            "R8 at the last version",
+                                            "status 1 at the last version",
+                                            "status 3 for the length at the last version",
+                                            "status 3 for the spare at the last version",
+                                            "status 3 for a reserved bit at the last version",
+                                            "another function with a store of another size or not well formed",
+                                            "version 1 added",
+                                            "the last version added",
+                                            "a version added over the oldest",
+                                            "back to the oldest version, and over it",
+                                            "back to the latest version",
+                                            "R8 for the version that has just gone",
+                                            "R8 for version 0"};
 
-/* Answers by kind: 1 to 5 the R numbers, or 1 a refusal of the slots. */
+/* R7 by what was wrong with the store. */
+static uint64_t refused_stores[BAD_STORES];
+static const char *const bad_stores[] = {"nothing", "every version a place on", "versions from 0", "a version off by 64",
+                                         "a version off by one", "a byte behind the settings", "a byte where nothing is held",
+                                         "a reserved enable bit", "a spare over 100", "a version missing", "a version beyond",
+                                         "any bit turned", "any bytes"};
+
+/* Answers by kind: 1 to 9 the R numbers, or 1 a refusal of the slots. */
 static unsigned kind_of(const struct turn *turn)
 {
     if (turn->given[0] < 0)
-        return (unsigned)-turn->given[0];
+        return turn->given[0] < -9 ? 31 : (unsigned)-turn->given[0];
     if (turn->event == CALL)
         return turn->function == 0 ? STATUS : STATUS + get16(lent(&answer, 0));
     return turn->event >= SLOTS_FRESH ? STATUS + (unsigned)turn->given[0] : 0;
@@ -831,12 +1047,68 @@ static void count_call(const struct turn *turn, unsigned kind)
         specials[OTHERS_CONTEXT] += get32(q) == get32(other + 8) && get32(q) != number_kept(named, 8);
 }
 
+static void count_stored(const struct turn *turn, unsigned kind)
+{
+    bool done = kind == 0 || kind == STATUS, is_back = turn->event == GO_BACK;
+
+    if (turn->event != SHOW && done) {
+        specials[FIRST_VERSION] += latest == 0;
+        specials[LAST_VERSION] += latest == VERSION_LAST - 1;
+        specials[OVER_THE_OLDEST] += latest >= PLACES;
+        specials[BACK_TO_THE_OLDEST] += is_back && latest >= PLACES && latest - turn->version == PLACES - 1;
+        specials[BACK_TO_THE_LATEST] += is_back && latest == turn->version;
+    }
+    specials[JUST_GONE] += kind == 8 && latest > PLACES && latest - turn->version == PLACES;
+    specials[VERSION_0] += kind == 8 && turn->version == 0;
+    specials[R8_OVER_R9] += kind == 8 && is_back && latest == VERSION_LAST;
+}
+
+/* A Set Threshold at the last version that a status refused. */
+static void count_at_the_last(const struct turn *turn, unsigned kind)
+{
+    const uint8_t *q = mine(&request);
+
+    specials[STATUS_1_OVER_R9] += kind == STATUS + 1 && request.length == 7 && settings_good(q);
+    specials[LENGTH_OVER_R9] += kind == STATUS + 3 && turn->revision == 2 && request.length != 7;
+    if (kind == STATUS + 3 && request.length == 7) {
+        specials[SPARE_OVER_R9] += get16(q) <= 7;
+        specials[ENABLE_OVER_R9] += q[2] <= 100;
+    }
+}
+
+/* A turn that is lent a store: what came of that, and of what else was wrong. */
+static void count_store(const struct turn *turn, unsigned kind)
+{
+    uint32_t unused;
+    bool size = store.length == STORE_BYTES, formed = size && store_well_formed(mine(&store), &unused);
+    bool is_call = turn->event == CALL;
+
+    if (is_call && turn->function != MODULE_SET_THRESHOLD)
+        specials[NO_STORE] += kind == STATUS && !formed;
+    if (!(turn->event == SHOW || sets(turn)))
+        return;
+    refused_stores[bad_store] += kind == 7;
+    specials[R1_OVER_R6] += kind == 1 && !size;
+    specials[R2_OVER_R6] += kind == 2 && !size;
+    specials[R6_OVER_R5] += kind == 6 && turn->module >= MODULES;
+    specials[R6_OVER_R3] += kind == 6 && bad_field != NOTHING;
+    specials[R5_OVER_R7] += kind == 5 && !formed;
+    specials[R3_OVER_R7] += kind == 3 && !formed;
+    specials[R7_OVER_STATUS_1] += kind == 7 && is_call && turn->revision != 2;
+    specials[R7_OVER_LENGTH] += kind == 7 && is_call && turn->revision == 2 && request.length != 7;
+    specials[R7_OVER_R8] += kind == 7 && !is_call && turn->version == 0;
+    if (formed)
+        count_stored(turn, kind);
+    if (formed && is_call && latest == VERSION_LAST)
+        count_at_the_last(turn, kind);
+}
+
 /* One R number where there was cause for another too. */
 static void count_order(const struct turn *turn, unsigned kind)
 {
-    bool names = turn->event == CALL || turn->event == POWER || turn->event == READING;
+    bool of_one = turn->event == CALL || (turn->event >= POWER && turn->event <= GO_BACK);
 
-    specials[R2_OVER_R5] += names && kind == 2 && turn->module >= MODULES;
+    specials[R2_OVER_R5] += of_one && kind == 2 && turn->module >= MODULES;
     specials[R5_OVER_R3] += kind == 5 && (bad_field != NOTHING || !is_whole());
     specials[R5_OVER_R4] += kind == 5 && turn->event == READING && turn->spare > SPARE_MOST;
     specials[R5_HUGE] += kind == 5 && turn->module >> 32 != 0;
@@ -880,6 +1152,7 @@ static void count(const struct turn *turn)
     tally[turn->event][kind & 31]++;
     count_health(turn, kind);
     count_order(turn, kind);
+    count_store(turn, kind);
     if (kind == 0 || (turn->event == CALL && kind == STATUS))
         by_module[turn->event][named]++;
     for (unsigned module = 0; turn->event == TICK && kind == 0 && module < MODULES; module++) {
@@ -925,6 +1198,9 @@ static void report(uint64_t turns)
                (unsigned long long)row[5], (unsigned long long)row[3]);
         if (event == READING)
             printf(", R4 %llu", (unsigned long long)row[4]);
+        if (event == CALL || event == SHOW || event == GO_BACK)
+            printf(", R6 %llu, R7 %llu, R8 %llu, R9 %llu", (unsigned long long)row[6], (unsigned long long)row[7],
+                   (unsigned long long)row[8], (unsigned long long)row[9]);
         if (event != CALL)
             printf(", done %llu\n", (unsigned long long)row[0]);
         for (int status = 0; event == CALL && status < 12; status++)
@@ -963,6 +1239,12 @@ static const struct {
     {POWER, 3, "R3"},              {POWER, 5, "R5"},
     {READING, 2, "R2"},            {READING, 3, "R3"},               {READING, 4, "R4"},
     {READING, 5, "R5"},            {READING, 0, "a reading kept"},   {ADOPT, 3, "R3"},
+    {CALL, 6, "R6"},               {CALL, 7, "R7"},                  {CALL, 9, "R9"},
+    {SHOW, 2, "R2"},               {SHOW, 6, "R6"},                  {SHOW, 5, "R5"},
+    {SHOW, 3, "R3"},               {SHOW, 7, "R7"},                  {SHOW, 8, "R8"},
+    {GO_BACK, 1, "R1"},            {GO_BACK, 2, "R2"},               {GO_BACK, 6, "R6"},
+    {GO_BACK, 5, "R5"},            {GO_BACK, 3, "R3"},               {GO_BACK, 7, "R7"},
+    {GO_BACK, 8, "R8"},            {GO_BACK, 9, "R9"},
     {SLOTS_FRESH, 1, "-1"},        {SLOTS_FRESH, STATUS, "0"},       {SLOTS_WRITE, 1, "-1"},
     {SLOTS_WRITE, STATUS, "0"},    {SLOTS_WRITE, STATUS + 1, "1"},   {SLOTS_SELECT, 1, "-1"},
     {SLOTS_SELECT, STATUS, "0"},   {SLOTS_READ, 1, "-1"},            {SLOTS_READ, STATUS, "0"},
@@ -998,7 +1280,7 @@ static bool reached_modules(void)
     static const char *const one_or_other[] = {"module 0", "module 1"};
     static const char *const sizes[] = {"R3 for 287 bytes", "R3 for 289 bytes", "R3 for 128 bytes"};
     static const char *const old_sizes[] = {"R3 for 127 bytes", "R3 for 129 bytes", "R3 for 288 bytes"};
-    static const enum event of_one[] = {CALL, POWER, READING};
+    static const enum event of_one[] = {CALL, POWER, READING, SHOW, GO_BACK};
     bool all = true;
 
     for (int module = 0; module < MODULES; module++) {
@@ -1017,6 +1299,8 @@ static bool reached_modules(void)
     }
     for (int i = 0; i < SPECIALS; i++)
         all &= reached(specials[i], "modules", special_names[i]);
+    for (int wrong = A_PLACE_ON; wrong < BAD_STORES; wrong++)
+        all &= reached(refused_stores[wrong], "R7 for", bad_stores[wrong]);
     return all;
 }
 
@@ -1033,7 +1317,7 @@ static bool reached_all(void)
         all &= reached(finish_bits[bit], "refused by itself", "a reserved bit of a Finish");
     for (int bit = 3; bit < 16; bit++)
         all &= reached(enable_bits[bit], "refused by itself", "a reserved enable bit");
-    for (int event = CALL; event <= READING; event++) {
+    for (int event = CALL; event <= GO_BACK; event++) {
         all &= reached(wrong_trips[event], names[event], "R3 for a wrong trips byte");
         all &= reached(no_version[event], names[event], "R3 for no version in Staged");
     }
@@ -1052,6 +1336,7 @@ static void go_on(const struct turn *turn)
     memcpy(record.was, record.side[0], whole(&record));
     memcpy(area.was, area.side[0], whole(&area));
     memcpy(slots.was, slots.side[0], whole(&slots));
+    memcpy(store.was, store.side[0], whole(&store));
 }
 
 int main(int words, char **word)

@@ -12,15 +12,17 @@
 #include "../independent/record.h"
 
 static uint8_t area[MODULE_AREA_SIZE], one[MODULE_RECORD_SIZE], other[MODULE_RECORD_SIZE];
+static uint8_t store[MODULE_STORE_SIZE]; /* which function 1 does not look at */
 static uint8_t one_answer[MODULE_ANSWER_LEAST], other_answer[MODULE_ANSWER_LEAST];
 
 static uint64_t asked; /* each module in turn */
 
 static bool ask(void)
 {
-    return cabinet_call(one, sizeof one, area, sizeof area, asked, 2, MODULE_GET_HEALTH, area, 0, one_answer, sizeof one_answer) == 132
-        && independent_call(other, sizeof other, area, sizeof area, asked, 2, MODULE_GET_HEALTH, area, 0, other_answer,
-                            sizeof other_answer) == 132;
+    return cabinet_call_with_store(one, sizeof one, area, sizeof area, store, sizeof store, asked, 2, MODULE_GET_HEALTH, area, 0,
+                                   one_answer, sizeof one_answer) == 132
+        && independent_call_with_store(other, sizeof other, area, sizeof area, store, sizeof store, asked, 2, MODULE_GET_HEALTH, area,
+                                       0, other_answer, sizeof other_answer) == 132;
 }
 
 static int compared(uint16_t word, uint16_t near)
