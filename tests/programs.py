@@ -39,6 +39,7 @@ PROGRAMS = {
         "empty", "area-stays", "ticks", "three-hosts", "edge-of-area",      # ends: idle, receiving, verifying, staged, failed
         "fault-size", "fault-number", "fault-count", "fault-version", "fault-sum", "fault-over", "fault-power",     # faults
         "modules-beside", "modules-ticks", "modules-power", "modules-contexts", "modules-area", "modules-bad",     # both modules
+        "history", "history-64", "history-laps",                            # stores: few versions, 64 and more
         "bad-records", "page")),                                            # lines: bad, short
 }
 
@@ -47,6 +48,11 @@ PROGRAMS = {
 # takes a count to the largest; those after it are refused by a cell or by each other count in turn, or taken.
 NEARLY_FULL = ("reports_full", 4294967285,
                ("incident", "page", "mask", "ticks", "power", "bad-records", "ten-wrong", *["tail-only"] * 11, "empty"))
+
+
+# The replay from stores of threshold settings that are near their last version on, which no log comes to: the latest version that
+# each module's store begins with, with settings of zeros up to it, and the stories. tests/stdout says by hand what comes of them.
+NEARLY_LAST = (4294967293, ("last-version",))
 
 
 # The program behind bin/compare, which takes two logs: its crate, and the stories whose logs the gate runs it on. The second comes on standard input.
@@ -164,6 +170,14 @@ def salvage():
     path = ROOT / "bin" / "salvage"
     if not path.is_file():
         raise Unready("there is no bin/salvage")
+    return [str(path)]
+
+
+def history():
+    """The command that tells what a store of threshold settings holds."""
+    path = ROOT / "bin" / "history"
+    if not path.is_file():
+        raise Unready("there is no bin/history")
     return [str(path)]
 
 

@@ -174,6 +174,56 @@ def set_passphrase(current, new):
     return passphrase(current) + passphrase(new)
 
 
+# ---- Stores of threshold settings ----
+
+PLACE, PLACES, STORE, SETTINGS = 32, 64, 2048, 7
+VERSION_LAST = 0xFFFFFFFF
+
+
+def settings_good(settings):
+    """Whether a Set Threshold with these seven bytes is accepted."""
+    return len(settings) == SETTINGS and number_at(settings, 0, 2) <= 7 and settings[2] <= SPARE_MOST
+
+
+def place(version, settings):
+    return (le(version, 4) + settings).ljust(PLACE, b"\0")
+
+
+def place_at(version):
+    return (version - 1) % PLACES * PLACE
+
+
+def added(store, version, settings):
+    """The store with one more version."""
+    at = place_at(version)
+    return store[:at] + place(version, settings) + store[at + PLACE:]
+
+
+def held(store):
+    """The versions that a well-formed store holds, oldest first, each with its settings; None where it is not well formed."""
+    latest = max(number_at(store, at, 4) for at in range(0, STORE, PLACE))
+    versions = range(max(1, latest - PLACES + 1), latest + 1)
+    found = [(version, store[place_at(version) + 4:place_at(version) + 4 + SETTINGS]) for version in versions]
+    again = bytes(STORE)
+    for version, settings in found:
+        again = added(again, version, settings)
+    return found if again == store and all(settings_good(settings) for _, settings in found) else None
+
+
+def degrees(word):
+    size = word & 0x7FFF
+    return f"{'-' if word & 0x8000 and size else ''}{size // 16}.{size % 16 * 625:04}"
+
+
+def history_text(found):
+    """The lines of versions and their settings."""
+    lines = []
+    for version, settings in found:
+        media, controller = number_at(settings, 3, 2), number_at(settings, 5, 2)
+        lines.append(f"{version} {number_at(settings, 0, 2)} {settings[2]} {media} {controller} {degrees(media)} {degrees(controller)}\n")
+    return "".join(lines).encode()
+
+
 # ---- Images ----
 
 FAULTS = ("size", "number", "count", "zero-version", "version", "sum")

@@ -12,6 +12,9 @@
     end PHASE CONTEXTS              what the replay must end with, in the story's last lines: module 0's, then module 1's. Both may be
                                     left out, and the second where no step is module 1's: it is then idle. In Failed the image's
                                     first fault comes behind it, size, number, count, version or sum, and its record's number
+    [module M] latest N             beside them: the latest version of the module's store of threshold settings
+    [module M] held N [FIELD VALUE]..   version N of it is held, with these: enable, spare, media, controller as of set-threshold
+    [module M] gone N               version N of it is not held
 
 The line of a call or a raw record may end with what must come of it: => STATUS, => STATUS/EXTENDED, => answer BYTES or
 => bad. This makes no byte of the log; tests/stdout holds the replay to it, so a story says by hand what document 01 asks.
@@ -72,8 +75,7 @@ CALLS = {
     "finish": (records.FINISH, {**CONTEXT, "flag": (0, BYTE), "reserved": "bytes"}),
     "abort": (records.FINISH, CONTEXT),
     "query": (records.QUERY, CONTEXT),
-    "set-threshold": (records.SET_THRESHOLD, {"enable": (0, HALF), "spare": (0, BYTE), "media": (0, HALF),
-                                              "controller": (0, HALF)}),
+    "set-threshold": (records.SET_THRESHOLD, {"enable": (0, HALF), "spare": (0, BYTE), "media": (0, HALF), "controller": (0, HALF)}),
     "security": (records.SECURITY, {}),
     "set-passphrase": (records.SET_PASSPHRASE, {"current": "bytes", "new": "bytes"}),
     "disable": (records.DISABLE, {"current": "bytes"}),
@@ -85,6 +87,8 @@ MODULE = {"module": (0, 15)}
 BAD = {"kind": {"kind": (0, BYTE), **MODULE}, "host": {"host": (0, BYTE)}, "module": MODULE, "length": {"length": (0, HALF), **MODULE},
        "padding": {"byte": (8, records.RECORD - 1), **MODULE}, "tick": {"byte": (1, records.RECORD - 1), **MODULE},
        "power": {"byte": (1, records.RECORD - 1), **MODULE}, "reading": {"byte": (1, records.RECORD - 1), "spare": (0, BYTE), **MODULE}}
+SETTINGS = {"enable": (0, HALF), "spare": (0, BYTE), "media": (0, HALF), "controller": (0, HALF)}
+STORES = ("latest", "held", "gone")
 READING = {"spare": (0, records.SPARE_MOST), "media": (0, HALF), "controller": (0, HALF)}
 IMAGES = {"good": None, "made": None, "bad-size": "size", "bad-number": "number", "bad-count": "count", "bad-version": "version",
           "zero-version": "zero-version", "bad-sum": "sum"}
@@ -99,7 +103,8 @@ STATUS = re.compile(r"(\d+)(?:/(\d+))?$")
 
 class Story:
     """A story's title, its log, and what it says of the replay: for a record's number the line of the story that
-    made it, and (status, extended number), an answer's bytes, "bad", or None; and the last lines, of both modules or of none."""
+    made it, and (status, extended number), an answer's bytes, "bad", or None; the last lines, of both modules or of none; and of the
+    stores: the line of the story, the module, "latest", "held" or "gone", the version, and what is held."""
 
     def __init__(self):
         self.title = None
@@ -107,6 +112,7 @@ class Story:
         self.lines = []
         self.answers = []
         self.ends = []
+        self.stores = []
 
 
 class StoryError(Exception):
@@ -430,6 +436,21 @@ def end_line(words):
     return line
 
 
+def store_line(number, words):
+    """What a line says of a module's store, or None where it is no such line."""
+    module = 0
+    if words[0] == "module" and len(words) > 2:
+        module, words = words[1], words[2:]
+    if words[0] not in STORES:
+        return None
+    module = a_number(str(module), "module", 0, records.MODULES - 1)
+    if len(words) < 2 or len(words) > 2 and words[0] != "held":
+        raise Wrong(f"{words[0]} wants a version" + (", and what was set" if words[0] == "held" else ""))
+    fields = fields_of(words[2:], SETTINGS)
+    version = a_number(words[1], words[0], 0, WHOLE)
+    return number, module, words[0], version, records.set_threshold(*(fields.get(name, 0) for name in SETTINGS))
+
+
 def both_ends(story, names_module_1):
     """The last lines of both modules, where the story says one of them."""
     if len(story.ends) == 1:
@@ -451,9 +472,14 @@ def tell(text):
             words = words_of(line)
             if not words:
                 continue
-            if len(story.ends) == records.MODULES or (tail or story.ends) and words[0] != "end":
-                raise Wrong("no record comes after short, and nothing after end but module 1's")
-            if words[0] == "short":
+            said = store_line(number, words)
+            if words[0] == "end" and len(story.ends) == records.MODULES:
+                raise Wrong("there are two ends, one for each module")
+            if (tail or story.ends or story.stores) and words[0] != "end" and said is None:
+                raise Wrong("no record comes after short, end, latest, held or gone")
+            if said:
+                story.stores.append(said)
+            elif words[0] == "short":
                 tail = short_tail(words)
             elif words[0] == "end":
                 story.ends.append(end_line(words))
