@@ -1,10 +1,10 @@
 """Random logs that lead deep: made(SEED, N) is log N of a seed, always the same; pair(SEED, N) is it and a second log to lay beside it;
-damaged(SEED, N) is it as a card ashore may have it.
+damaged(SEED, N) is it as a card ashore may have it. store(SEED, N) is a store of threshold settings, well formed or not.
 
 Of both modules: whole transfers of 1 to 128 records in odd pieces, good, damaged and damaged twice, which the end names; hosts
 with right, old and guessed contexts, and with the other module's; Starts while the other module has the area; 7, 8 and 9 ticks;
-power cycles in between; passphrases up to and past the limit; freezes; thresholds and readings on both sides of them; reserved
-bits; bad and short records.
+power cycles in between; passphrases up to and past the limit; freezes; thresholds and readings on both sides of them, up to and past
+64 settings in a row; reserved bits; bad and short records.
 """
 import random
 
@@ -386,6 +386,16 @@ class Maker:
         self.call(self.host(), records.SET_THRESHOLD, request)
         self.call(self.host(), records.GET_THRESHOLD, b"", self.pick(1, 2))
 
+    def settings(self):
+        """Set Thresholds up to and past the 64 that a store holds, each another one, most of them accepted."""
+        for number in range(self.pick(2, 5, 20, 62, 63, 64, 65, 66, 100, 130)):
+            enable = self.chance.randrange(8) if not self.one_in(20) else self.chance.getrandbits(16)
+            spare = self.pick(number % 101, number % 101, 100, self.chance.randrange(101)) if not self.one_in(20) else 101
+            self.call(self.host(), records.SET_THRESHOLD, records.set_threshold(enable, spare, self.word(), self.word()),
+                      self.pick(*[2] * 20, 1))
+            if self.one_in(40):
+                self.between()
+
     def noise(self):
         function = self.pick(*records.NAMES, *records.NAMES, 0, 0, 1, 3, 11, 18, 24, 25, 32, 256 + records.START, 0xFFFF,
                              self.chance.getrandbits(16))
@@ -437,7 +447,7 @@ class Maker:
         elif kind < 15:
             self.security()
         elif kind == 15:
-            self.pick(self.thresholds, self.health)()
+            self.pick(self.thresholds, self.health, self.settings)()
         elif kind == 16:
             self.power()
         elif kind == 17:
@@ -585,3 +595,56 @@ def damaged(seed, number):
     for _ in range(chance.choice((0, 1, 1, 2, 4, 9, 30))):
         damage(chance, log)
     return bytes(log)
+
+
+# ---- Stores ----
+
+def made_store(chance):
+    """A well-formed store, and its latest version: none, few, 64 or nearly, or any number up to the last."""
+    latest = chance.choice((0, 1, 2, chance.randrange(64), 63, 64, 65, chance.randrange(1000), chance.getrandbits(32),
+                            records.VERSION_LAST, records.VERSION_LAST - chance.randrange(130)))
+    words = (0, 0x8000, 1, 0x8001, 15, 16, 0x8010, 0x7FFF, 0xFFFF)
+    store = bytes(records.STORE)
+    for version in range(max(1, latest - records.PLACES + 1), latest + 1):
+        media, controller = (chance.choice((*words, chance.getrandbits(16))) for _ in range(2))
+        store = records.added(store, version, records.set_threshold(chance.randrange(8), chance.randrange(101), media, controller))
+    return store, latest
+
+
+def spoil(chance, store, latest):
+    """Damages a store in one way; with some of them it is well formed all the same."""
+    at = chance.randrange(records.PLACES) * records.PLACE
+    version = records.number_at(store, at, 4)
+    kind = chance.randrange(10)
+    if kind == 0:                           # every place one on, or back
+        turn = chance.choice((1, -1)) * records.PLACE
+        return store[turn:] + store[:turn]
+    if kind == 1:                           # a version that is off by a lap, or by one
+        return store[:at] + records.le((version + chance.choice((64, -64, 1, -1))) & 0xFFFFFFFF, 4) + store[at + 4:]
+    if kind == 2:                           # versions from 0
+        return b"".join(records.le(max(0, records.number_at(store, place, 4) - 1), 4) + store[place + 4:place + records.PLACE]
+                        for place in range(0, records.STORE, records.PLACE))
+    if kind == 3:                           # a place that is gone
+        return store[:at] + bytes(records.PLACE) + store[at + records.PLACE:]
+    if kind == 4:                           # one beyond, and none before it
+        return records.added(store, (latest + 2) & 0xFFFFFFFF or 1, records.set_threshold(1, 2, 3, 4))
+    if kind == 5:                           # settings that are not accepted
+        return records.poke(store, at + chance.choice((4, 5, 6)), chance.choice((8, 101, 255)))
+    if kind == 6:                           # a byte behind the settings
+        return records.poke(store, at + chance.randrange(11, records.PLACE), chance.randrange(1, 256))
+    if kind == 7:                           # any bit
+        place = chance.randrange(records.STORE)
+        return records.poke(store, place, store[place] ^ 1 << chance.randrange(8))
+    if kind == 8:                           # another length
+        return chance.choice((store[:-1], store + b"\0", store[:chance.randrange(records.STORE)], store * 2, b""))
+    return chance.getrandbits(8 * records.STORE).to_bytes(records.STORE, "little")
+
+
+def store(seed, number):
+    """Store N of a seed, well formed or damaged, and a version to ask it for: held, nearly, or any."""
+    chance = random.Random(f"store {seed}/{number}")
+    made, latest = made_store(chance)
+    if chance.randrange(2):
+        made = spoil(chance, made, latest)
+    version = chance.choice((latest, latest - 63, latest - 64, latest + 1, latest - chance.randrange(64), 0, 1, chance.getrandbits(32)))
+    return made, min(max(0, version), records.VERSION_LAST)
