@@ -108,7 +108,7 @@ def kit():
     done = subprocess.run([rt, "doc"], stdout=subprocess.PIPE)
     if done.returncode:
         raise Unready("rt doc failed")
-    return pathlib.Path(done.stdout.decode().strip()).parent.parent / "on" / os.uname().machine
+    return pathlib.Path(done.stdout.decode().strip()).parent
 
 
 def emulator():
@@ -153,9 +153,9 @@ def proved(name, folder=None):
 def proved_crate(crate, folder=None):
     path = pathlib.Path(folder or ROOT / "target" / "bin") / crate
     if not path.is_file():
-        raise Unready(f"{path} is not there: 'rt check {crate}' builds it")
+        raise Unready(f"{path} is not there: 'tools/programs {crate}' builds it")
     if folder is None and stale(path, crate):
-        print(f"note: something that {crate} is built from is newer than {path}; 'rt check {crate}' builds it again", file=sys.stderr)
+        print(f"note: something that {crate} is built from is newer than {path}; 'tools/programs {crate}' builds it again", file=sys.stderr)
     return runner() + [str(path)]
 
 

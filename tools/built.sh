@@ -28,7 +28,7 @@ due() {
     why=''
     [ ! -e "$mark" ] || return 0
     if [ ! -f "$file" ]; then why='building on first use'
-    elif [ -n "$(find "$root/crates" "$root/crates.txt" -newer "$file" 2>/dev/null | head -n 1)" ]; then
+    elif [ -n "$(find "$root/crates" "$root/crates.txt" -name out -prune -o -newer "$file" -print 2>/dev/null | head -n 1)" ]; then
         why='building again, since something under crates/ has changed'
     else
         return 1
@@ -113,6 +113,8 @@ build() {
     say "$why: $how, over $all crates; what rt says goes to $words"
     . "$root/tools/prover.sh"
     rm -f "$kept"
+    # rt's own folders are there before the mark, so that a crate's folder does not look changed by them
+    (cd "$root/crates" 2>/dev/null && for one in */; do [ -d "$one/out" ] || mkdir "$one/out"; done) 2>/dev/null
     { [ ! -f "$file" ] || cp -p "$file" "$kept"; } && touch "$mark" || { say "$root/target cannot be written"; return 1; }
     ended=$({ { (cd "$root" && "$@") 2>&1 </dev/null 4>&-; echo "$?" >&4; } | tell >"$words" 4>&-; } 4>&1)
     if [ "$ended" != 0 ] || [ ! -f "$file" ]; then
@@ -150,27 +152,32 @@ crates_under() {
         END { reach(crate); print all + 0 }' "$root/crates.txt"
 }
 
-# Passes on what rt says, and tells each crate once: a line where it was proved now, and none where it was before.
+# Passes on what rt says, and tells each crate once, with a line when it is proved: of a crate that was proved before, rt says nothing.
 tell() {
-    told='' count=0
+    told='' one='' count=0
     while IFS= read -r line || [ -n "$line" ]; do
         printf '%s\n' "$line"
         case $line in
-        'rt: '*' proved ('*) one=${line#rt: } one=${one%% *} ;;
-        "rt: target/staticlib/lib$crate.a has "*) one=$crate ;;
+        'crate '*': '*) one=${line#crate } one=${one%%:*} && continue ;;
+        'logic=proved '*) ;;
         *) continue ;;
         esac
         case " $told " in *" $one "*) continue ;; esac
         told="$told $one" count=$((count + 1))
-        case $line in *' (unchanged '*) ;; *) say "proved $count of $all: $one" ;; esac
+        say "proved $one"
     done
 }
 
 # What rt said, without what belongs to a crate that is proved.
 what_failed() {
     awk '
-        /^rt: [A-Za-z0-9_]+ proved \(/ { words = ""; next }
+        /^logic=proved / { words = ""; next }
         { words = words $0 "\n" }
-        /^rt: / { printf "%s", words; words = "" }
         END { printf "%s", words }' "$words"
+}
+
+# program CRATE: lets rt prove and build a program, in crates/CRATE/out, run it on nothing, and puts it into target/bin.
+program() {
+    made=crates/$1/out/$1
+    rm -f "$made" && rt run "$1" && mkdir -p target/bin && cp "$made" "target/bin/$1"
 }

@@ -1,5 +1,7 @@
 // The cabinet for C: its record as bytes, the entry points under C names; and images made and read back. None asks anything of its caller.
 // include/module.h is its header.
+#![tactic(auto)]
+
 ghost use Rattle.std.specs.Prelude.{◌≡◌};
 ghost use Rattle.rules.specs.Record.{whole_of};
 ghost use Rattle.rules.specs.Cabinet.{call_result, tick_result, power_result, reading_result};

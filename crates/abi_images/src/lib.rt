@@ -1,4 +1,6 @@
 // Images for C: what is made, read back and told by a number. The functions under C names are those of crate abi.
+#![tactic(auto)]
+
 ghost use Rattle.std.specs.Prelude.{◌≡◌};
 ghost use Rattle.abi_images.specs.Told.{make_number, make_output, read_number, read_output};
 

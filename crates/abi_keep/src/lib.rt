@@ -1,4 +1,6 @@
 // What a C function makes of an outcome: the number that its caller is told, and the record's bytes, written where they are kept.
+#![tactic(auto)]
+
 ghost use Rattle.std.specs.Prelude.{◌≡◌, ◌≤◌, pos};
 ghost use Rattle.rules.specs.Numbers.{answer_room};
 ghost use Rattle.abi_keep.specs.Kept.{refusal, told, writes, kept_by, Leaves, Keepable, KeepableNamed};

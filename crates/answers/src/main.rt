@@ -1,5 +1,7 @@
 // The fuller trace that layouts are compared by: for each record of a log a line with the answer's bytes in hex, then every field of each module's device record and
 // the whole staging area. `-` is standard input. Its lines are compared with an independent program's.
+#![tactic(auto)]
+
 ghost use Rattle.std.specs.Prelude.{◌≤◌, ◌≡◌};
 ghost use Rattle.program_logs.specs.Turns.{Standing};
 

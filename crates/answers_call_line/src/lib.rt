@@ -1,5 +1,7 @@
 // A call's line of the fuller trace, with its answer's bytes in hex, written into a lent buffer at a place. It promises how much it writes and no text: the
 // line is compared with an independent program's.
+#![tactic(auto)]
+
 ghost use Rattle.std.specs.Prelude.{◌+◌, ◌≤◌, ◌≡◌, length};
 ghost use Rattle.rules.specs.Numbers.{answer_room};
 

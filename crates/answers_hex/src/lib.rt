@@ -1,4 +1,6 @@
 // Bytes in hex, written into a lent buffer at a place.
+#![tactic(auto)]
+
 ghost use Rattle.std.specs.Prelude.{◌+◌, ◌*◌, ◌≤◌, ◌≡◌, length};
 
 // The hex digit of the lower four bits.

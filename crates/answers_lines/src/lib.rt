@@ -1,5 +1,7 @@
 // The fuller trace's lines of the end state, with every field of each module's device record and the whole staging area, by which layouts are compared. A call's is
 // crates/answers_call_line. They promise how much they write and no text; the lines are compared with an independent program's.
+#![tactic(auto)]
+
 ghost use Rattle.std.specs.Prelude.{◌+◌, ◌*◌, ◌≤◌, length};
 
 use rules::{Cabinet, Device, Phase, Reading, Security, Transfer};

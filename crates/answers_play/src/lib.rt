@@ -1,5 +1,7 @@
 // A part of a log on the cabinet, with the fuller trace's line for each record: the answer's bytes in hex. It promises how much it writes and no text; its lines
 // are compared with an independent program's.
+#![tactic(auto)]
+
 ghost use Rattle.std.specs.Prelude.{◌+◌, ◌*◌, ◌/◌, ◌^◌, ◌≤◌, ◌<◌, ◌≡◌, length};
 ghost use Rattle.rules.specs.Log.{record_size};
 

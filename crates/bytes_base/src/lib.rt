@@ -1,4 +1,6 @@
 // Bytes: tests on them, copies of them.
+#![tactic(auto)]
+
 ghost use Rattle.std.specs.Prelude.{◌≡◌, ◌≤◌, ◌+◌, length};
 ghost use Rattle.rules.specs.Bytes.{zeros?, same?, le, splice};
 

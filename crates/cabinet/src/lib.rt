@@ -1,4 +1,6 @@
 // The cabinet: one call, tick, power cycle or health reading on its record and a lent staging area. These are the entry points; none asks anything of its caller.
+#![tactic(auto)]
+
 ghost use Rattle.std.specs.Prelude.{◌≡◌, [], ◌∷◌, ◌≤◌, length};
 ghost use Rattle.rules.specs.Numbers.{area_size, answer_room};
 ghost use Rattle.rules.specs.With.{◌with_contexts◌};
@@ -149,6 +151,7 @@ pub fn power(c: Cabinet, area: &[u8], named: u64) -> Outcome
 }
 
 // R4.
+#[tactic(auto, unfolding(rules::specs::Refusals::verdict))]
 fn judge_new(new: Reading) -> Verdict
     ensures { result ≡ verdict (R4Check new ∷ []) }
 {

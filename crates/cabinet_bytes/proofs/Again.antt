@@ -1,7 +1,7 @@
 -- What was decoded encodes to the same bytes: a cabinet's bytes are the only ones that say it.
 -- Assumes nothing.
 use mathlib.Core.{Path.{◌≡◌, refl, sym, ◌∙◌, ap}, Bool.true, List.{List, ◌++◌}}
-use Prim.Native.Nat.{ℕ, ◌≤◌, ◌+◌}
+use Prim.Native.Nat.{ℕ, ◌≤◌}
 use native.Mathlib.Omega.{arith}
 use lib.{ListN.{length, take, drop, length-drop, take-append-drop}, Seq.{take_all, drop-drop, length-take-le}}
 use Rattle.rules.specs.Bytes.{le, number_at, zeros}

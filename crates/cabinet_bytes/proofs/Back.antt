@@ -1,6 +1,6 @@
 -- What was encoded decodes to the same cabinet.
 -- Assumes nothing.
-use mathlib.Core.{Path.{◌≡◌, refl, sym, ◌∙◌, ap}, Bool.true, List.{List, ◌++◌}}
+use mathlib.Core.{Path.{◌≡◌, refl, ◌∙◌, ap}, Bool.true, List.{List, ◌++◌}}
 use Prim.Native.Nat.{ℕ, ◌<◌, ◌+◌, ◌^◌}
 use native.Mathlib.Omega.{arith}
 use lib.{ListN.{length, take, drop, length-append}, Seq.{take_at, drop_at, take_all}}

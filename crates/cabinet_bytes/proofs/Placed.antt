@@ -1,13 +1,13 @@
 -- One module's bytes and the contexts given out, written over a cabinet's bytes: what they make is the cabinet with that module.
 -- Assumes nothing.
-use mathlib.Core.{Path.{◌≡◌, refl, sym, ◌∙◌, ap, subst}, Bool.{Bool, true, false}, List.{List, [], ◌++◌, append-nil, append_assoc}}
+use mathlib.Core.{Path.{◌≡◌, sym, ◌∙◌, ap}, Bool.{Bool, true, false}, List.{List, [], ◌++◌, append-nil, append_assoc}}
 use Prim.Native.Nat.{ℕ, ◌≤◌, ◌+◌}
 use native.Mathlib.Omega.{arith}
-use lib.{ListN.{length, take, drop, length-append, length-drop, drop_of_length-le}, Seq.{take-add, take_all, drop-drop}}
-use Rattle.rules.{specs.Tests.{if◌then◌else◌, ◌=?◌}, specs.Bytes.{le, zeros, splice}, specs.Record.{possible_cabinet, device_of, other_of}, specs.declared.{Cabinet.Cabinet, Device.Device}}
+use lib.{ListN.{length, take, drop, length-drop, drop_of_length-le}, Seq.{take-add, take_all, drop-drop}}
+use Rattle.rules.{specs.Tests.{if◌then◌else◌, ◌=?◌}, specs.Bytes.{le, zeros, splice}, specs.Record.{possible_cabinet, device_of, other_of}, specs.declared.{Cabinet.Cabinet}}
 use Rattle.bytes_numbers.proofs.Bytes.{Bytes}
-use Rattle.device_bytes.specs.Encoding.{encode_of, decode_of}
-use Rattle.cabinet_bytes.specs.Encoding.{module_place, other_place, module_bytes, encode_cabinet, cabinet_of, decode_cabinet, Around}
+use Rattle.device_bytes.specs.Encoding.{encode_of}
+use Rattle.cabinet_bytes.specs.Encoding.{module_place, module_bytes, encode_cabinet, cabinet_of, decode_cabinet, Around}
 use Rattle.cabinet_bytes.proofs.{Fine.fine, Again.{module_again, between}, Refused.{Possible, from_possible}}
 
 -- a module's bytes are inside

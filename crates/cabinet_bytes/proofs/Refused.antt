@@ -1,10 +1,10 @@
 -- Bytes that are no record decode to a cabinet that is not possible, which R3 refuses; so a possible cabinet came from 288 bytes, of two records.
 -- Assumes nothing.
-use mathlib.Core.{Path.{◌≡◌, refl, sym, ◌∙◌, ap}, Bool.{Bool, true, false, false≢true}, List.List}
+use mathlib.Core.{Path.{◌≡◌, refl, sym, ◌∙◌}, Bool.{Bool, true, false, false≢true}, List.List}
 use Prim.Native.Nat.{ℕ}
 use lib.ListN.{length}
-use Rattle.rules.{specs.Record.{possible, possible_cabinet}, specs.declared.{Cabinet.Cabinet, Device.Device}, proofs.page.Past.both_possible}
-use Rattle.device_bytes.specs.Encoding.{record?, decode_of}
+use Rattle.rules.{specs.Record.{possible_cabinet}, specs.declared.{Cabinet.Cabinet}, proofs.page.Past.both_possible}
+use Rattle.device_bytes.specs.Encoding.{record?}
 use Rattle.device_bytes.proofs.Refused as device
 use Rattle.cabinet_bytes.specs.Encoding.{cabinet_size, module_bytes, cabinet?, cabinet_of, impossible_cabinet, decode_cabinet}
 use Rattle.cabinet_bytes.proofs.Fine.{fine}

@@ -1,4 +1,6 @@
 // A tick on the caller's record of the cabinet, in place.
+#![tactic(auto)]
+
 ghost use Rattle.rules.specs.Record.{whole_of};
 ghost use Rattle.cabinet_clock.specs.InPlace.{TickedInPlace};
 

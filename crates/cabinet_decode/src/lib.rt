@@ -1,4 +1,6 @@
 // The cabinet's record back from bytes. Any bytes of any length decode: those that are no record, to one that is not possible.
+#![tactic(auto)]
+
 ghost use Rattle.std.specs.Prelude.{◌≡◌, length};
 ghost use Rattle.cabinet_bytes.specs.Encoding.{cabinet_size, cabinet?, cabinet_of, impossible_cabinet, decode_cabinet};
 

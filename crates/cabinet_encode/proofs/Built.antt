@@ -1,6 +1,6 @@
 -- What the stores make: parts that are lent come back with a module's bytes in them, each right behind the one before.
 -- Assumes nothing.
-use mathlib.Core.{Path.{◌≡◌, refl, sym, ◌∙◌, ap}, List.{List, ◌++◌, append_assoc}}
+use mathlib.Core.{Path.{◌≡◌, refl, ◌∙◌, ap}, List.{List, ◌++◌, append_assoc}}
 use Prim.Native.Nat.{ℕ, ◌≤◌, ◌+◌, ◌-◌}
 use native.Mathlib.Omega.{arith}
 use lib.ListN.{length, length-append}

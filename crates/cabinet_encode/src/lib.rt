@@ -1,5 +1,7 @@
 // The cabinet's record written as 288 bytes: crates/cabinet_bytes has the places, crates/cabinet_decode reads them back. Each module's bytes are a part that is lent
 // to crates/device_encode.
+#![tactic(auto)]
+
 ghost use Rattle.std.specs.Prelude.{◌≡◌, length};
 ghost use Rattle.cabinet_bytes.specs.Encoding.{cabinet_size, module_place, encode_cabinet, Around};
 

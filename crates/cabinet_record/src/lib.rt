@@ -1,5 +1,7 @@
 // The cabinet's record in code (document 02, T-09): fresh, and taken over from a module that was alone; possible; one module's record, the other's, and a module put
 // back in its place; the checks that every event makes, and what a status leaves.
+#![tactic(auto)]
+
 ghost use Rattle.std.specs.Prelude.{◌≡◌, [], ◌∷◌, ◌≤◌};
 ghost use Rattle.rules.specs.Numbers.{attempt_limit};
 ghost use Rattle.rules.specs.Record.{fresh_cabinet, possible_cabinet, whole_of, device_of, other_of, with_device_at};
@@ -30,6 +32,7 @@ pub fn adopted(d: Device) -> Cabinet
     }
 }
 
+#[tactic(auto, unfolding(rules::specs::Record::possible_cabinet))]
 fn possible(c: Cabinet) -> bool
     ensures { result ≡ possible_cabinet c }
 {
@@ -72,6 +75,7 @@ pub fn with_device(c: Cabinet, named: u64, d: Device) -> Cabinet
 }
 
 // R2, R5 and R3.
+#[tactic(auto, unfolding(rules::specs::Refusals::verdict))]
 fn judge(c: Cabinet, area: &[u8], unknown: bool) -> Verdict
     ensures { result ≡ verdict (R2Check area.now ∷ (unknown gives R 5) ∷ R3Check c ∷ []) }
 {
@@ -90,6 +94,7 @@ fn judge(c: Cabinet, area: &[u8], unknown: bool) -> Verdict
 }
 
 // A tick names no module, and gives R2 and R3 only.
+#[tactic(auto, unfolding(rules::specs::Refusals::verdict))]
 pub fn judge_tick(c: Cabinet, area: &[u8]) -> Verdict
     ensures { result ≡ verdict (tick_checks (whole_of c area.now)) }
 {

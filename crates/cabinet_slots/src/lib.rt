@@ -1,5 +1,7 @@
 // Two slots for the cabinet's record and a selector, in memory that outlives power: specs/Slots.antt has the places, specs/Torn.antt what they are for.
 // A write touches the slot that is not selected alone, a select the selector's byte alone.
+#![tactic(auto)]
+
 ghost use Rattle.std.specs.Prelude.{◌≡◌};
 ghost use Rattle.cabinet_slots.specs.Slots.{slots?, fresh_number, fresh_slots, write_number, write_slots, select_number, select_slots, read_number, read_record};
 

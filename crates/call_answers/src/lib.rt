@@ -1,4 +1,6 @@
 // The answer's bytes, written over the front of the answer buffer; the bytes past them stay.
+#![tactic(auto)]
+
 ghost use Rattle.std.specs.Prelude.{◌≡◌, Bool, List, ◌++◌, ℕ, ◌≤◌, ◌-◌, length};
 ghost use Rattle.rules.specs.Numbers.{answer_room};
 ghost use Rattle.rules.specs.Bytes.{zeros};

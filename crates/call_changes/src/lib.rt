@@ -1,4 +1,6 @@
 // What an accepted call changes: the part of its module's record that its function works on, the number of contexts given out, and the area of a Send.
+#![tactic(auto)]
+
 ghost use Rattle.std.specs.Prelude.{◌≡◌, Bool, length};
 ghost use Rattle.rules.specs.Numbers.{area_size};
 ghost use Rattle.rules.specs.With.{◌with_transfer◌, ◌with_thresholds◌, ◌with_security◌};

@@ -1,4 +1,6 @@
 // Order: R1, R2, R5, R3, status 1, request length, then each function's checks as listed.
+#![tactic(auto)]
+
 ghost use Rattle.std.specs.Prelude.{◌≡◌, List, [], ◌∷◌, ℕ, length};
 ghost use Rattle.rules.specs.Record.{whole_of, module_of, standing};
 ghost use Rattle.rules.specs.Refusals.{verdict};

@@ -1,4 +1,6 @@
 // Document 01, "Which function index at which revision": the one table of functions, and function 0's mask.
+#![tactic(auto)]
+
 ghost use Rattle.std.specs.Prelude.{◌≡◌, true, false};
 ghost use Rattle.rules.specs.Table.{unserved, row_of, mask as mask_of};
 
@@ -62,6 +64,7 @@ pub fn look_up(index: u64) -> Row
 }
 
 // The functions that a revision serves, bit k for function k.
+#[tactic(auto, unfolding(rules::specs::Table::mask))]
 pub fn mask(revision: u64) -> u32
     ensures { result ≡ mask_of revision }
 {

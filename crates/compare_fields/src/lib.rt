@@ -1,4 +1,6 @@
 // A place of two logs: which of a record's six fields differ there. A place may be cut by the shorter log's end.
+#![tactic(auto)]
+
 ghost use Rattle.std.specs.Prelude.{◌≡◌, not, ◌+◌, ◌*◌, ◌≤◌, length, take, drop};
 ghost use Rattle.rules.specs.Tests.{if◌then◌else◌};
 ghost use Rattle.rules.specs.Bytes.{same?};

@@ -1,6 +1,6 @@
 -- Laws of the part that is handed back, and of what is counted of two logs.
 -- Assumes nothing.
-use mathlib.Core.{Path.{◌≡◌, refl, sym, ◌∙◌, ap, subst}, Bool.{Bool, true, false}, List.{List, [], ◌∷◌, ◌++◌}}
+use mathlib.Core.{Path.{◌≡◌, refl, sym, ◌∙◌, ap, subst}, Bool.{Bool, true, false}, List.{List, [], ◌∷◌}}
 use Prim.Native.Nat.{ℕ, zero, suc, min, ◌+◌, ◌-◌, ◌≤◌, ◌<◌}
 use native.Mathlib.{Nat.zero-add, Omega.arith}
 use borrow.Author.Tests.{le-leb, lt-leb, leb-true, leb-false}
@@ -13,9 +13,9 @@ use Rattle.bytes_base.proofs.Parts.{rest}
 use Rattle.compare_logs.specs.Part.{Lies, RestOf, HandedBack, WithItsReport}
 
 -- a part as the code's range has it
-pub lies : (log : Bor (List ℕ)) (from : ℕ) (name : ℕ)
-    → Lies log from (record { ref_ptr = (log.ref_ptr.0, from + log.ref_ptr.1); ghost_name = name; now = take (length log.now - from) (drop from log.now) })
-lies log from name =
+pub lies : (log : Bor (List ℕ)) (from : ℕ)
+    → Lies log from (record { ref_ptr = (log.ref_ptr.0, from + log.ref_ptr.1); now = take (length log.now - from) (drop from log.now) })
+lies log from =
     let e : from + log.ref_ptr.1 ≡ log.ref_ptr.1 + from = omega arith in
     record { place = ap (λ (k : ℕ). (log.ref_ptr.0, k)) e; bytes = rest from log.now }
 

@@ -1,7 +1,7 @@
 -- Document 02, T-06: the part that is handed back, as it lies in a log that was lent.
 -- Assumes nothing.
 use Rattle.std.specs.Prelude.{ℕ, ◌+◌, ◌<◌, ◌≤◌, length, drop}
-use mathlib.Core.{Path.◌≡◌, Bool.Bool, List.List}
+use mathlib.Core.{Path.◌≡◌, List.List}
 use Rattle.std.specs.Borrow.{Bor}
 use Rattle.rules.specs.{Tests.{if◌then◌else◌, ◌≤?◌}, declared.Comparison.Comparison, declared.Comparison.TheVariants.{Compared, Full}}
 use Rattle.rules.specs.Compare.{differences, comparison}

@@ -1,4 +1,6 @@
 // Two logs side by side: the report, the list of the places that differ, and the rest of the longer log.
+#![tactic(auto)]
+
 ghost use Rattle.std.specs.Prelude.{◌≡◌, length, ◌≤◌};
 ghost use Rattle.rules.specs.Compare.{compared, comparison, list_after, rest_after};
 ghost use Rattle.compare_places.specs.SoFar.{none_places, part_counted};

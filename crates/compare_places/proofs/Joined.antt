@@ -1,7 +1,7 @@
 -- Places of two logs of which a first part was counted: those behind it are counted on from there. The part is whole records, or nothing is behind it.
 -- Assumes nothing.
-use mathlib.Core.{Path.{◌≡◌, refl, sym, ◌∙◌, ap}, List.{List, [], ◌++◌, append-nil}}
-use Prim.Native.Nat.{ℕ, zero, suc, ◌≤◌, ◌<◌, ◌+◌, ◌-◌, ◌*◌, ◌/◌}
+use mathlib.Core.{Path.{◌≡◌, sym, ◌∙◌, ap}, List.{List, [], ◌++◌, append-nil}}
+use Prim.Native.Nat.{ℕ, zero, suc, ◌≤◌, ◌<◌, ◌+◌, ◌*◌}
 use native.Mathlib.{Nat.{add-zero, add-suc, add-mul}, Omega.arith}
 use lib.{ListN.{length, take, drop, length-append, length-drop}, Seq.{drop_at, drop-drop, take-append-le, drop-append-le}}
 use Rattle.rules.specs.{Log.record_at, Compare.places_in}

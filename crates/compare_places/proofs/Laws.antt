@@ -1,14 +1,14 @@
 -- Laws of places that are counted and listed: one place more, by its test; and a cut one behind whole ones.
 -- Assumes nothing.
 use mathlib.Core.{Path.{◌≡◌, refl, sym, ◌∙◌, ap}, Bool.{Bool, true, false, ◌&&◌}, List.{List, [], ◌∷◌, ◌++◌}}
-use Prim.Native.Nat.{ℕ, zero, suc, ◌+◌, ◌-◌, ◌*◌, ◌/◌, ◌≤◌, ◌<◌}
-use native.Mathlib.{Nat.{add-zero, add_assoc, add-sub_cancel_left}, Numerals.add-one, Omega.arith}
+use Prim.Native.Nat.{ℕ, zero, suc, ◌+◌, ◌-◌, ◌*◌, ◌≤◌, ◌<◌}
+use native.Mathlib.{Nat.{add-zero, add_assoc, add-sub_cancel_left}, Omega.arith}
 use lib.{ListN.{length, take, drop, set, length-append, length-drop}, Seq.{sets, length-sets, take_all}}
 use Rattle.rules.specs.{Tests.{if◌then◌else◌, ◌=?◌}, Bytes.same?, Log.record_at}
-use Rattle.rules.specs.Compare.{places_in, fields_differing, field_bits, Difference, difference_at, differences_to, leading_on, leading_to, entry, entries}
+use Rattle.rules.specs.Compare.{fields_differing, field_bits, Difference, difference_at, differences_to, leading_on, leading_to, entry, entries}
 use Rattle.rules.proofs.page.Compared.{as_many}
 use Rattle.bytes_base.proofs.Parts.{rest}
-use Rattle.compare_places.specs.{declared.SoFar.SoFar, SoFar.{equal_counted, place_counted, place_listed, counted_to, listed_to, part_counted, part_listed}}
+use Rattle.compare_places.specs.{declared.SoFar.SoFar, SoFar.{equal_counted, place_counted, place_listed, counted_to, listed_to}}
 
 -- what a test of the bytes comes to
 abbrev difference : Bool → (number : ℕ) (a b : List ℕ) → List Difference

@@ -1,7 +1,7 @@
 -- Places counted and listed one after another, on from what was counted before.
 -- Assumes nothing.
 use Rattle.std.specs.Prelude.{ℕ, ◌+◌, ◌≤◌, ◌<◌}
-use mathlib.Core.{Path.◌≡◌, Bool.true, List.List}
+use mathlib.Core.{Bool.true, List.List}
 use lib.{ListN.length, Seq.sets}
 use Rattle.rules.specs.{Bytes.same?, Compare.{places_in, difference_at, differences_to, leading_on, leading_to, entries}}
 use Rattle.compare_places.specs.declared.SoFar.{SoFar}

@@ -1,4 +1,6 @@
 // The places of two logs, one after another: what was counted so far, and the list of those that differ.
+#![tactic(auto)]
+
 ghost use Rattle.std.specs.Prelude.{◌≡◌, ◌+◌, ◌*◌, ◌/◌, ◌≤◌, ◌<◌, length, set};
 ghost use Rattle.rules.specs.Log.{record_size};
 ghost use Rattle.compare_places.specs.SoFar.{most_places, Counted, none_places, equal_counted, place_counted, place_listed, counted_to, listed_to, part_counted, part_listed};

@@ -2,8 +2,8 @@
 -- Assumes nothing.
 use Prim.Native.Nat.{ℕ, suc, ◌+◌, ◌*◌, ◌/◌, ◌%◌, ◌≤◌, ◌<◌}
 use Prim.Native.String.{String}
-use mathlib.Core.{Path.{◌≡◌, refl, sym, ◌∙◌, ap, subst}, Bool.{Bool, true, false}, List.{List, [], ◌∷◌, ◌++◌, append_assoc, append-nil}}
-use native.Mathlib.{Nat.add-zero, Numerals.add-one, Omega.arith}
+use mathlib.Core.{Path.{◌≡◌, sym, ◌∙◌, ap, subst}, Bool.{Bool, true, false}, List.{List, [], ◌∷◌, ◌++◌, append_assoc, append-nil}}
+use native.Mathlib.{Nat.add-zero, Omega.arith}
 use lib.{ListN.{length, get_or, take, drop, take-append-drop}, Seq.{take-suc}}
 use Rattle.rules.specs.{Tests.{if◌then◌else◌, ◌=?◌}, Text.{ascii, decimal, field}, Compare.field_names}
 use Rattle.text.{specs.Wrote.{Wrote, WroteWithin}, proofs.Writing.{and_then, rewrote}}

@@ -1,4 +1,6 @@
 // The report of two logs as text: a line for the leading places, one for each place that differs, one for the bytes left over.
+#![tactic(auto)]
+
 ghost use Rattle.std.specs.Prelude.{◌∷◌, [], ◌++◌, ◌+◌, ◌*◌, ◌/◌, ◌%◌, ◌≤◌, length, take};
 ghost use Rattle.rules.specs.Tests.{if◌then◌else◌, ◌=?◌};
 ghost use Rattle.rules.specs.Text.{decimal};

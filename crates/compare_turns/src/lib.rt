@@ -1,4 +1,6 @@
 // Two logs that are read side by side in parts: what is kept from turn to turn, and the report of it.
+#![tactic(auto)]
+
 ghost use Rattle.std.specs.Prelude.{◌-◌, ◌≤◌, ◌<◌, ◌≡◌, length};
 ghost use Rattle.rules.specs.Compare.{list_room};
 ghost use Rattle.program_logs.specs.Turns.{part_size};

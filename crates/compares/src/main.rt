@@ -1,5 +1,7 @@
 // Compares two logs, which two arguments name, and prints the report of document 02, T-06. `-` is standard input. The logs are read side by side in parts, so
 // that memory does not grow with them. What cannot be read or written is named on standard error, and nothing is printed of it.
+#![tactic(auto)]
+
 ghost use Rattle.std.specs.Prelude.{◌≤◌, ◌<◌, ◌≡◌, length};
 ghost use Rattle.program_logs.specs.Turns.{part_size};
 ghost use Rattle.compare_turns.specs.Turned.{text_room};

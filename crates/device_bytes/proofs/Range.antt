@@ -1,6 +1,6 @@
 -- What the types of a record's fields say of it, as the types' laws have it.
 -- Assumes nothing.
-use mathlib.Core.{Path.{◌≡◌, refl, sym, ◌∙◌, ap}, List.{List, [], ◌∷◌, map}}
+use mathlib.Core.{Path.{◌≡◌, refl, ap}, List.{List, [], ◌∷◌, map}}
 use Prim.Native.Nat.{ℕ, suc}
 use lib.ListN.{length}
 use mir.Val.{Val}
@@ -24,7 +24,7 @@ same_length [] = refl
 same_length (x ∷ xs) = ap suc (same_length xs)
 
 pub passphrase_long : (s : Security) (vs : List Val) → Is S.the_row s vs → length s.passphrase ≡ 32
-passphrase_long s vs is = sym (same_length s.passphrase) ∙ (LL.owed S.the_type S'.the_laws s vs is).1.1.1.1.0.1.0.1
+passphrase_long s vs is = (LL.owed S.the_type S'.the_laws s vs is).1.1.1.1.0.1.0.1
 
 pub in_range : (d : Device) (vs : List Val) → Is D.the_row d vs → InRange d
 in_range d vs is =

@@ -1,4 +1,6 @@
 // A module's device record back from bytes. Any bytes of any length decode: those that are no record, to one that is not possible.
+#![tactic(auto)]
+
 ghost use Rattle.std.specs.Prelude.{◌≡◌, length, take, drop};
 ghost use Rattle.rules.specs.Bytes.{zeros?};
 ghost use Rattle.device_bytes.specs.Encoding.{encoded_size, phase_of, record?, security_in, reading_in, record_of, impossible, decode_of};

@@ -1,5 +1,7 @@
 // A module's device record written as 128 bytes: crates/device_bytes has the places, crates/device_decode reads them back.
 // Every byte is written once, in the order of the places, and none is cleared first.
+#![tactic(auto)]
+
 ghost use Rattle.std.specs.Prelude.{◌≡◌, ◌++◌, length};
 ghost use Rattle.rules.specs.Bytes.{splice, zeros};
 ghost use Rattle.device_bytes.specs.Encoding.{encoded_size, state_bytes, first_bytes, transfer_bytes, encoded_thresholds, fault_bytes, reading_bytes, encode_of};

@@ -1,4 +1,6 @@
 // The phase in code: its number, by which two phases are compared; whether a context is live in it, and whether its module has the staging area.
+#![tactic(auto)]
+
 ghost use Rattle.std.specs.Prelude.{◌≡◌};
 ghost use Rattle.rules.specs.Record.{phase_number, live, has_area};
 

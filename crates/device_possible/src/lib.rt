@@ -1,5 +1,7 @@
 // Document 01, "The device record": whether a module's record is possible, given how many contexts both modules were given (document 02, T-09): each of its four
 // parts by itself, and its trips byte. And whether it was possible when the module was alone.
+#![tactic(auto)]
+
 ghost use Rattle.std.specs.Prelude.{◌≡◌, length};
 ghost use Rattle.rules.specs.Bytes.{zeros?};
 ghost use Rattle.rules.specs.Adopt.{no_reading, possible_alone, possible_parts_alone, possible_before, kept_before};
@@ -38,6 +40,7 @@ fn possible_fault(t: Transfer) -> bool
     (t.reason <= 5) & ((1 <= t.reason) == failed) & (t.faulty <= failed as u8 * 127)
 }
 
+#[tactic(auto, unfolding(rules::specs::Record::possible_transfer))]
 fn possible_transfer(t: Transfer, given: u32) -> bool
     ensures { result ≡ possible_transfer given t }
 {
@@ -55,6 +58,7 @@ fn all_zero(passphrase: &[u8]) -> bool
         & (bytes_numbers::long(passphrase, 24) == 0)
 }
 
+#[tactic(auto, unfolding(rules::specs::Record::possible_security))]
 fn possible_security(s: Security) -> bool
     ensures { result ≡ possible_security s }
 {
@@ -62,18 +66,21 @@ fn possible_security(s: Security) -> bool
     (!s.locked | s.enabled) & (s.enabled | zero) & (s.attempts <= ATTEMPT_LIMIT)
 }
 
+#[tactic(auto, unfolding(rules::specs::Record::possible_thresholds))]
 fn possible_thresholds(h: Thresholds) -> bool
     ensures { result ≡ possible_thresholds h }
 {
     (h.enable < 8) & (h.spare <= 100)
 }
 
+#[tactic(auto, unfolding(rules::specs::Record::possible_reading))]
 fn possible_reading(h: Reading) -> bool
     ensures { result ≡ possible_reading h }
 {
     h.spare <= 100
 }
 
+#[tactic(auto, unfolding(rules::specs::Record::possible_parts))]
 fn possible_parts(d: Device, given: u32) -> bool
     ensures { result ≡ possible_parts given d }
 {
@@ -83,12 +90,14 @@ fn possible_parts(d: Device, given: u32) -> bool
         & possible_reading(d.reading)
 }
 
+#[tactic(auto, unfolding(rules::specs::Record::possible_trips))]
 fn possible_trips(d: Device) -> bool
     ensures { result ≡ possible_trips d }
 {
     d.trips == health_trips::trips(d.thresholds, d.reading)
 }
 
+#[tactic(auto, unfolding(rules::specs::Record::possible))]
 pub fn possible(d: Device, given: u32) -> bool
     ensures { result ≡ possible given d }
 {
@@ -115,6 +124,7 @@ fn no_reading(h: Reading) -> bool
 }
 
 // Whether a record was possible before faults and readings were kept.
+#[tactic(auto, unfolding(rules::specs::Adopt::possible_before))]
 fn possible_before(d: Device) -> bool
     ensures { result ≡ possible_before d }
 {
@@ -127,6 +137,7 @@ fn possible_before(d: Device) -> bool
 }
 
 // Whether a record was kept before the trips byte was.
+#[tactic(auto, unfolding(rules::specs::Adopt::kept_before))]
 pub fn kept_before(d: Device) -> bool
     ensures { result ≡ kept_before d }
 {

@@ -1,4 +1,6 @@
 // A module's device record in code: fresh, one wrong attempt more, the trips byte renewed, and a record from before taken over.
+#![tactic(auto)]
+
 ghost use Rattle.std.specs.Prelude.{◌≡◌, ◌≤◌};
 ghost use Rattle.rules.specs.Numbers.{attempt_limit};
 ghost use Rattle.rules.specs.Record.{fresh, renewed};

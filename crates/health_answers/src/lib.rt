@@ -1,4 +1,6 @@
 // Document 02, T-04 and T-08: the answer of function 1, with the trips byte that the record keeps.
+#![tactic(auto)]
+
 ghost use Rattle.std.specs.Prelude.{◌≡◌, ◌++◌, ◌≤◌, length};
 ghost use Rattle.rules.specs.Numbers.{answer_room};
 ghost use Rattle.rules.specs.Bytes.{splice};

@@ -1,4 +1,6 @@
 // Document 02, T-04: which alarms have tripped. The device record keeps it (T-08): what renews it and what tests it compute it here.
+#![tactic(auto)]
+
 ghost use Rattle.std.specs.Prelude.{◌≡◌};
 ghost use Rattle.rules.specs.Health.{above, trips};
 ghost use Rattle.health_trips.specs.Heights.{height};

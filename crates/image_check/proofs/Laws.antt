@@ -2,7 +2,7 @@
 -- Assumes nothing.
 use mathlib.Core.{Path.{◌≡◌, refl, sym, ◌∙◌, ap, subst}, Bool.{Bool, true, false, ◌&&◌}, List.List}
 use Prim.Native.Nat.{ℕ, zero, suc, ◌+◌, ◌-◌, ◌*◌, ◌/◌, ◌≤◌, ◌<◌}
-use native.Mathlib.{Nat.{add-sub_cancel_left, sub-zero}, Omega.arith}
+use native.Mathlib.{Nat.{add-sub_cancel_left}, Omega.arith}
 use lib.{ListN.{length, take, drop, length-drop}, Seq.{drop-drop, length-take-le}}
 use Rattle.rules.{specs.Image.{good_record, good_size, version_of}, specs.Fault.{Fault, none, ◌of_record◌, record_fault, ◌or_else◌, records_fault, first_fault, judged, image_of, image_record}}
 use Rattle.rules.{specs.Tests.{◌=?◌, if◌then◌else◌}, specs.declared.Reason.Reason, specs.declared.Reason.TheVariants.Size, specs.declared.Image.TheVariants.{Good, Bad}}

@@ -1,6 +1,8 @@
 // Document 01, "Good image": whether the received bytes are one, records of 128 bytes with no header; and where they are not, document 02, T-03: their first fault.
 // One record is crates/image_record. One walk decides: it takes two records a turn as long as both are good, then one by one; it ends at the first bad record, and
 // only that one is looked at test by test.
+#![tactic(auto)]
+
 ghost use Rattle.std.specs.Prelude.{◌≡◌, ◌-◌, ◌*◌, ◌/◌, ◌≤◌, ◌<◌, length, drop};
 ghost use Rattle.rules.specs.Fault.{none, record_fault, judged, image_of, image_record};
 ghost use Rattle.image_check.specs.Walk.{first_bad};

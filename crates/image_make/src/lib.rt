@@ -1,4 +1,6 @@
 // Document 02, T-02: an image made from a payload and a version, and the payload read back. Neither asks anything of its caller, and a refusal writes nothing.
+#![tactic(auto)]
+
 ghost use Rattle.std.specs.Prelude.{◌≡◌, ◌≤◌, ◌+◌, ◌*◌, ◌/◌, length, drop};
 ghost use Rattle.rules.specs.Bytes.{le, splice};
 ghost use Rattle.rules.specs.Made.{parts_of, first_part, made_record, made_records, made_image, carried, payload_of};
@@ -46,6 +48,7 @@ fn put_record(i: usize, n: usize, version: u64, part: &[u8], record: &mut [u8])
 }
 
 // So many records from number `first` on, whose parts the payload fills, at the front of the output.
+#[tactic(auto, unfolding(rules::specs::Made::made_records))]
 fn put_records(
     first: usize,
     records: usize,
@@ -138,6 +141,7 @@ pub fn make(version: u64, payload: &[u8], output: &mut [u8]) -> Making
 }
 
 // What n records carry, at the front of the output.
+#[tactic(auto, unfolding(rules::specs::Made::carried))]
 fn put_parts(n: usize, image: &[u8], output: &mut [u8])
     requires { (n ≤ 128) × (n * 128 ≤ length image.now) × (n * 112 ≤ length output.old) }
     ensures { output.new ≡ splice 0 (carried n image.now) output.old }
@@ -151,6 +155,7 @@ fn put_parts(n: usize, image: &[u8], output: &mut [u8])
 }
 
 // Writes the payload that a good image carries, with its padding, at the front of the output, and answers how many bytes that are.
+#[tactic(auto, unfolding(rules::specs::Made::payload_of))]
 pub fn read_back(image: &[u8], output: &mut [u8]) -> ReadingBack
     ensures value { result ≡ reading_of image.now output.old }
     ensures output_after { output.new ≡ output_read result (payload_of image.now) output.old }

@@ -1,7 +1,7 @@
 -- Laws of a record's front: it tests what number, count and version test, and two records by their sums and fronts.
 -- Assumes nothing.
 use mathlib.Core.{Path.{◌≡◌, refl, sym, ◌∙◌, ap}, Bool.{Bool, true, false, ◌&&◌, false≢true}, List.List}
-use Rattle.std.proofs.Common.{ℕ, ◌+◌, ◌*◌, ◌%◌, ◌^◌, ◌<◌, ◌≤◌, length, drop, arith, eq-eqb, ne_eqb, eqb-true}
+use Rattle.std.proofs.Common.{ℕ, ◌+◌, ◌*◌, ◌^◌, ◌<◌, ◌≤◌, length, drop, arith, eq-eqb, ne_eqb, eqb-true}
 use borrow.Author.Tests.{eqb-false}
 use Rattle.rules.{specs.Bytes.{number_at, AreBytes}, specs.Image.good_record, specs.Fault.sum_test, specs.Tests.◌=?◌, proofs.page.Le.drop_bytes}
 use Rattle.image_record.specs.Front.{front_of, good_behind}

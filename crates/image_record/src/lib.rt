@@ -1,4 +1,6 @@
 // Document 01, "Good image": whether the 128 bytes of one record are good; and of those that are not, document 02, T-03: which test fails first.
+#![tactic(auto)]
+
 ghost use Rattle.std.specs.Prelude.{◌≡◌, ◌+◌, ◌%◌, ◌^◌, ◌<◌, ◌≤◌, ◌&&◌, length, drop, ◌≢◌};
 ghost use Rattle.rules.specs.Image.{sum_field, number_in, sum_of_words, record_sum, good_record};
 ghost use Rattle.rules.specs.Fault.{none, ◌of_record◌, sum_test, record_fault};
@@ -7,6 +9,7 @@ ghost use Rattle.image_record.specs.Front.{good_behind};
 use rules::{COUNT_PLACE, NUMBER_PLACE, Reason, SUM_PLACE, VERSION_PLACE};
 
 // The sum of a record's first 31 words, which wraps at 32 bits.
+#[tactic(auto, unfolding(rules::specs::Image::sum_of_words))]
 pub fn sum(record: &[u8]) -> u32
     requires { length «record».now ≡ 128 }
     ensures { result ≡ record_sum «record».now }
@@ -63,6 +66,7 @@ fn twice_last(record: &[u8]) -> u32
 
 // Whether two records have the right sums. All 32 words of each are added, four a turn, and no word of theirs was read before: so the compiler adds them
 // sixteen bytes at a time, and the four sums of a record at its end.
+#[tactic(auto, unfolding(rules::specs::Image::sum_of_words))]
 fn right_sums(first: &[u8], second: &[u8]) -> bool
     requires { (length first.now ≡ 128) × (length second.now ≡ 128) }
     ensures { result ≡ (sum_test first.now && sum_test second.now) }

@@ -1,5 +1,7 @@
 // Makes images and reads them back: `make VERSION PAYLOAD` writes the image of a payload, `read IMAGE` the payload that an image carries, with its padding, to
 // standard output, one after another. A file of `-` is standard input. What is refused, or cannot be read or written, is named on standard error.
+#![tactic(auto)]
+
 ghost use Rattle.std.specs.Prelude.{◌≤◌, ◌+◌, ◌≡◌, length};
 ghost use Rattle.images.specs.Version.{number_in, fits};
 

@@ -1,4 +1,6 @@
 // A call's record of a log: whether it is good, and the call that it holds.
+#![tactic(auto)]
+
 ghost use Rattle.std.specs.Prelude.{◌≡◌, length};
 ghost use Rattle.rules.specs.Tests.{if◌then◌else◌};
 ghost use Rattle.rules.specs.Log.{record_size, named_in, host_in, good_call};

@@ -1,5 +1,7 @@
 // A reader that walks a lent log of 544-byte records. A place counts records: record 0 stands at place 0, and the bytes of the record at a place are the
 // 544 from place * 544 on. Any number is a place; one past the end answers the end.
+#![tactic(auto)]
+
 ghost use Rattle.std.specs.Prelude.{◌≡◌};
 ghost use Rattle.log_reader.specs.Reader.{stood_at, reader_of, step_of};
 

@@ -1,4 +1,6 @@
 // One record of a log: what its 544 bytes say. A call's is crates/log_call.
+#![tactic(auto)]
+
 ghost use Rattle.std.specs.Prelude.{◌≡◌, length};
 ghost use Rattle.rules.specs.Tests.{if◌then◌else◌};
 ghost use Rattle.rules.specs.Log.{record_size, entry_of, named_in, bare, names_module, good_power, good_reading};

@@ -1,11 +1,12 @@
 // The one loop over logs: a program goes through the logs that its arguments name turn by turn, and does its own work at each.
+#![tactic(auto)]
+
 ghost use Rattle.std.specs.Prelude.{◌+◌, ◌/◌, ◌≤◌, ◌<◌, ◌≡◌, length};
 ghost use Rattle.rules.specs.Tests.{if◌then◌else◌};
 ghost use Rattle.program_logs.specs.declared.Turn.TheVariants.{Part, Nothing};
 ghost use Rattle.program_logs.specs.Turns.{Standing, Next, Left, after_part, part_size};
 
-use libc::STDOUT_FILENO;
-use program_files::{Filled, PART};
+use program_files::{Filled, Log, PART, System};
 use rules::LOG_RECORD;
 
 // The buffer for an argument: the longest name of a file, and its end.
@@ -15,7 +16,7 @@ pub const NAME: usize = 4096;
 const TURNS: u64 = 72057594037927936;
 
 // What a program finds in its turn.
-#[derive(Drop)]
+#[derive(Clone, Copy)]
 pub enum Turn {
     // A log begins. Its first part is in the buffer already, for a log of which nothing can be read does not begin.
     Beginning,
@@ -29,18 +30,19 @@ pub enum Turn {
     Nothing,
 }
 
-// Where a program stands in its logs: its turn, the argument that comes next, the log's descriptor (a negative number is none) and the length of its name, the number
-// of the next record, how much of the buffer the part fills, whether reading failed behind it, and how many turns are left: none after the last log.
-#[derive(Drop)]
+// Where a program stands in its logs: its turn, the argument that comes next, the length of the log's name, the number of the next record, how much of the buffer
+// the part fills, whether reading failed behind it, how many turns are left: none after the last log; and whether nobody reads standard output any more. The log
+// itself, or none, stands beside it.
+#[derive(Clone, Copy)]
 pub struct Logs {
     pub turn: Turn,
     pub argument: usize,
-    pub log: i32,
     pub size: usize,
     pub number: u64,
     pub have: usize,
     pub failed: bool,
     pub left: u64,
+    pub closed: bool,
 }
 
 // Before the log that this argument names. A program's first is 1; the program itself is 0.
@@ -50,12 +52,12 @@ pub fn before(argument: usize) -> Logs
     Logs {
         turn: Turn::Nothing,
         argument,
-        log: -1,
         size: 0,
         number: 0,
         have: 0,
         failed: false,
         left: TURNS,
+        closed: false,
     }
 }
 
@@ -75,7 +77,13 @@ fn go_on(logs: Logs, turn: Turn, number: u64, filled: Filled) -> Logs
 }
 
 // After a part: the next one where it filled the buffer, else the end.
-fn after_part(logs: Logs, buf: &mut [u8; PART], name: &[u8; NAME]) -> Logs
+fn after_part<R: System>(
+    rt: &R,
+    logs: Logs,
+    log: &mut Log,
+    buf: &mut [u8; PART],
+    name: &[u8; NAME],
+) -> Logs
     requires { Standing logs × (0 < logs.left) }
     ensures { Standing result × (result.left < logs.left) × Next Part logs result }
 {
@@ -84,50 +92,55 @@ fn after_part(logs: Logs, buf: &mut [u8; PART], name: &[u8; NAME]) -> Logs
     let short = logs.have % LOG_RECORD != 0;
     let failed = logs.failed;
     if full {
-        return go_on(logs, Turn::Part, number, program_files::fill(logs.log, buf));
+        return go_on(logs, Turn::Part, number, program_files::fill(rt, log, buf));
     }
     let none = Filled {
         have: 0,
         failed: false,
     };
     if failed {
-        program_files::fail_log(name, logs.size);
+        program_files::fail_log(rt, log, name, logs.size);
         return go_on(logs, Turn::Unreadable, number, none);
     }
     go_on(logs, Turn::End { short }, number, none)
 }
 
-// The log that the next argument names. One of which nothing can be read does not begin.
-fn begin(logs: Logs, buf: &mut [u8; PART], name: &mut [u8; NAME]) -> Logs
+// The log that the next argument names. One of which nothing can be read does not begin, and none where nobody reads what is written.
+fn begin<R: System>(
+    rt: &R,
+    logs: Logs,
+    log: &mut Log,
+    buf: &mut [u8; PART],
+    name: &mut [u8; NAME],
+) -> Logs
     requires { Standing logs × (0 < logs.left) }
     ensures { Standing result × (result.left < logs.left) × Left result.turn result.number }
 {
-    program_files::close_log(logs.log);
+    program_files::close_log(log);
     let argument = logs.argument;
-    if os::arg_count() <= argument {
+    if logs.closed || !program_files::has_arg(rt, argument) {
         return Logs {
             turn: Turn::Nothing,
             left: 0,
             ..logs
         };
     }
-    let opened = program_files::open_log(argument, name);
-    let log = opened.fd;
+    let opened = program_files::open_log(rt, argument, name);
     let size = opened.size;
+    *log = opened.log;
     let next = Logs {
         turn: Turn::Unreadable,
         argument: argument + 1,
-        log,
         size,
         left: logs.left - 1,
         ..logs
     };
-    if log < 0 {
+    if !program_files::is_open(log) {
         return next;
     }
-    let filled = program_files::fill(log, buf);
+    let filled = program_files::fill(rt, log, buf);
     if filled.failed & (filled.have == 0) {
-        program_files::fail_log(name, size);
+        program_files::fail_log(rt, log, name, size);
         return next;
     }
     Logs {
@@ -140,7 +153,13 @@ fn begin(logs: Logs, buf: &mut [u8; PART], name: &mut [u8; NAME]) -> Logs
 }
 
 // The next turn.
-pub fn next(logs: Logs, buf: &mut [u8; PART], name: &mut [u8; NAME]) -> Logs
+pub fn next<R: System>(
+    rt: &R,
+    logs: Logs,
+    log: &mut Log,
+    buf: &mut [u8; PART],
+    name: &mut [u8; NAME],
+) -> Logs
     requires { Standing logs × (0 < logs.left) }
     ensures { Standing result × (result.left < logs.left) × Next logs.turn logs result }
 {
@@ -151,10 +170,10 @@ pub fn next(logs: Logs, buf: &mut [u8; PART], name: &mut [u8; NAME]) -> Logs
     };
     match turn {
         Turn::Beginning => go_on(logs, Turn::Part, logs.number, filled),
-        Turn::Part => after_part(logs, buf, name),
-        Turn::End { short: _ } => begin(logs, buf, name),
-        Turn::Unreadable => begin(logs, buf, name),
-        Turn::Nothing => begin(logs, buf, name),
+        Turn::Part => after_part(rt, logs, log, buf, name),
+        Turn::End { short: _ } => begin(rt, logs, log, buf, name),
+        Turn::Unreadable => begin(rt, logs, log, buf, name),
+        Turn::Nothing => begin(rt, logs, log, buf, name),
     }
 }
 
@@ -173,13 +192,11 @@ fn told(logs: Logs, written: bool) -> Logs
 }
 
 // Writes the text of a turn out, the front of a buffer.
-pub fn show(logs: Logs, out: &[u8], end: usize) -> Logs
+pub fn show<R: System>(rt: &R, logs: Logs, out: &[u8], end: usize) -> Logs
     requires { Standing logs × (end ≤ length out.now) }
     ensures { Standing result × (result.left ≡ logs.left) }
 {
-    let written = io::write_all(STDOUT_FILENO, &out[0..end]);
-    if !written {
-        os::fail(b"standard output");
-    }
-    told(logs, written)
+    let shown = program_files::show(rt, out, end);
+    let closed = logs.closed | shown.closed;
+    told(Logs { closed, ..logs }, shown.written)
 }

@@ -1,4 +1,6 @@
 // The report program, from any report on: it feeds the logs that its arguments name one after another, and prints the report.
+#![tactic(auto)]
+
 ghost use Rattle.std.specs.Prelude.{◌≤◌};
 ghost use Rattle.program_logs.specs.Turns.{Standing};
 

@@ -1,5 +1,7 @@
 // Tries the two places that are proved by walks: a reader walks a log, and a tick changes a record in place. What it must write, in the file stdout, was
 // written by hand from documents 01 and 02.
+#![tactic(auto)]
+
 ghost use Rattle.std.specs.Prelude.{◌≡◌};
 ghost use Rattle.rules.specs.Record.{whole_of};
 ghost use Rattle.cabinet_clock.specs.InPlace.{TickedInPlace};

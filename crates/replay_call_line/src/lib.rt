@@ -1,4 +1,6 @@
 // A call's line of the replay, written into a lent buffer at a place.
+#![tactic(auto)]
+
 ghost use Rattle.std.specs.Prelude.{◌≡◌, ◌+◌, ◌≤◌, length};
 ghost use Rattle.rules.specs.Replay.{printed_status, printed_ext, call_line};
 ghost use Rattle.text.specs.Wrote.{WroteWithin, line_room};

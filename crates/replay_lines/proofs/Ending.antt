@@ -1,6 +1,6 @@
 -- What ends the last line, by the phase's number.
 -- Assumes nothing.
-use mathlib.Core.{Path.{◌≡◌, sym, ◌∙◌}, Bool.{true, false}, List.{List, ◌++◌}}
+use mathlib.Core.{Path.{◌≡◌}, Bool.{true, false}, List.{List, ◌++◌}}
 use Prim.Native.Nat.{ℕ}
 use Rattle.rules.{specs.Tests.◌=?◌, specs.Text.{ascii, field}, specs.Record.phase_number, specs.Replay.{reason_name, line_end}, specs.declared.Transfer.Transfer}
 use Rattle.text.{specs.Wrote.Wrote, proofs.Writing.rewrote}

@@ -1,4 +1,6 @@
 // The replay's own lines, each written into a lent buffer at a place: the heading, a short tail's, and the last ones. A call's is crates/replay_call_line.
+#![tactic(auto)]
+
 ghost use Rattle.std.specs.Prelude.{true, ◌+◌, ◌≤◌, length};
 ghost use Rattle.rules.specs.Replay.{heading, tail_line, line_end, last_line, last_lines};
 ghost use Rattle.text.specs.Wrote.{WroteWithin, line_room};

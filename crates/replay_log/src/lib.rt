@@ -1,4 +1,6 @@
 // The replay of a log, by places and parts: what stands there is played on the cabinet, and its text is written into a lent buffer.
+#![tactic(auto)]
+
 ghost use Rattle.std.specs.Prelude.{◌≡◌, ◌+◌, ◌*◌, ◌^◌, ◌≤◌, ◌<◌, length};
 ghost use Rattle.rules.specs.Numbers.{answer_room};
 ghost use Rattle.text.specs.Wrote.{line_room};

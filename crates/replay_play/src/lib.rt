@@ -1,4 +1,6 @@
 // One record of a log: it is played on the cabinet (crates/replay_step), and its line is written into a lent buffer.
+#![tactic(auto)]
+
 ghost use Rattle.std.specs.Prelude.{◌≡◌, ◌+◌, ◌≤◌, length};
 ghost use Rattle.rules.specs.Numbers.{answer_room};
 ghost use Rattle.text.specs.Wrote.{WroteWithin, line_room};

@@ -1,4 +1,6 @@
 // One record of a log, played on the cabinet: the record after it, and the reply. No text is written here, so that whatever goes through a log plays it by this.
+#![tactic(auto)]
+
 ghost use Rattle.std.specs.Prelude.{◌≡◌, length};
 ghost use Rattle.rules.specs.Numbers.{answer_room};
 ghost use Rattle.rules.specs.Record.{whole_of};

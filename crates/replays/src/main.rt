@@ -1,5 +1,7 @@
 // Replays logs: for each log that an argument names, the text of document 01, "The replay program", one text after another. `-` is standard input.
 // What cannot be read or written is named on standard error; the other logs are replayed all the same.
+#![tactic(auto)]
+
 ghost use Rattle.std.specs.Prelude.{◌≤◌, ◌≡◌, ◌++◌, length, take};
 ghost use Rattle.rules.specs.Numbers.{answer_room};
 ghost use Rattle.rules.specs.Replay.{replay_start, heading, tail_line, last_lines};

@@ -1,4 +1,6 @@
 // A log counted part by part: each record is played as the replay plays it (crates/replay_step), and raises one count of the report (crates/report_tally).
+#![tactic(auto)]
+
 ghost use Rattle.std.specs.Prelude.{◌≡◌, length};
 ghost use Rattle.rules.specs.Numbers.{answer_room};
 ghost use Rattle.rules.specs.Record.{whole_of};

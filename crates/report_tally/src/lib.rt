@@ -1,4 +1,6 @@
 // A report while a log is counted: each record raises one count. Where a count would pass the largest, it stays, and from then on nothing more is counted.
+#![tactic(auto)]
+
 ghost use Rattle.std.specs.Prelude.{◌≡◌, false, [], ◌+◌, ◌≤◌, ◌<◌, set, get_or};
 ghost use Rattle.rules.specs.Tests.{if◌then◌else◌, ◌≤?◌};
 ghost use Rattle.rules.specs.Report.{answered, masked, ticked, powered, measured, bad, largest_count, raised_at, raised_counts};

@@ -1,4 +1,6 @@
 // The text of a report, written into a lent buffer: a heading, a line for each host, and a line for each count beside the grid.
+#![tactic(auto)]
+
 ghost use Rattle.std.specs.Prelude.{◌++◌, ◌+◌, ◌≤◌, length};
 ghost use Rattle.rules.specs.Text.{field};
 ghost use Rattle.rules.specs.Report.{row_text, host_lines, count_lines, report_text};

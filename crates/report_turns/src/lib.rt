@@ -1,5 +1,7 @@
 // What a program that reports on logs does in each of its turns (crates/program_logs): a log is counted part by part; at its end the report with it is kept, or
 // the log is refused and the report that was kept stays. Of a log that cannot be read to its end nothing is kept.
+#![tactic(auto)]
+
 ghost use Rattle.std.specs.Prelude.{◌≤◌, ◌≡◌, false, length, take};
 ghost use Rattle.rules.specs.Numbers.{answer_room};
 ghost use Rattle.rules.specs.Record.{whole_of};

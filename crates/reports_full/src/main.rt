@@ -1,4 +1,6 @@
 // Tries the refusal of a log too many, which no log reaches from nothing: the report program, with every count 10 below the largest.
+#![tactic(auto)]
+
 use rules::Counts;
 
 fn main() {

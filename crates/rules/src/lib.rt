@@ -1,4 +1,5 @@
 // The numbers and the types that document 01 speaks of. They carry no code: the rules over them stand in specs/, the theorems in proofs/.
+#![tactic(auto)]
 
 // Numbers of this product, as in specs/Numbers.antt. Staging area 16,384 bytes.
 pub const AREA_SIZE: usize = 16384;
@@ -43,7 +44,7 @@ pub const PAYLOAD_PLACE: usize = 12;
 pub const SUM_PLACE: usize = 124;
 
 // The device record's phase.
-#[derive(Drop)]
+#[derive(Clone, Copy)]
 pub enum Phase {
     Idle,
     Receiving,
@@ -54,7 +55,7 @@ pub enum Phase {
 
 // The device record's firmware part: the module's own current context (document 02, T-09), bytes received, ticks left, running and staged version; and in Failed, of
 // the image's first fault (T-03), the reason and the faulty record's number.
-#[derive(Drop)]
+#[derive(Clone, Copy)]
 pub struct Transfer {
     pub phase: Phase,
     pub current: u32,
@@ -67,7 +68,7 @@ pub struct Transfer {
 }
 
 // The three thresholds with their enable bits.
-#[derive(Drop)]
+#[derive(Clone, Copy)]
 pub struct Thresholds {
     pub enable: u16,
     pub spare: u8,
@@ -76,7 +77,7 @@ pub struct Thresholds {
 }
 
 // Security enabled, locked, frozen, wrong attempts, passphrase.
-#[derive(Drop)]
+#[derive(Clone, Copy)]
 pub struct Security {
     pub enabled: bool,
     pub locked: bool,
@@ -86,7 +87,7 @@ pub struct Security {
 }
 
 // The last health reading: spare, media and controller temperature words (document 02, T-04).
-#[derive(Drop)]
+#[derive(Clone, Copy)]
 pub struct Reading {
     pub spare: u8,
     pub media: u16,
@@ -94,7 +95,7 @@ pub struct Reading {
 }
 
 // A module's device record. The trips byte is kept beside the thresholds and the reading that it follows from (document 02, T-08).
-#[derive(Drop)]
+#[derive(Clone, Copy)]
 pub struct Device {
     pub transfer: Transfer,
     pub thresholds: Thresholds,
@@ -104,7 +105,7 @@ pub struct Device {
 }
 
 // The cabinet's record (document 02, T-09): the contexts given out so far, which both modules share, and modules 0 and 1.
-#[derive(Drop)]
+#[derive(Clone, Copy)]
 pub struct Cabinet {
     pub contexts: u32,
     pub first: Device,
@@ -112,27 +113,27 @@ pub struct Cabinet {
 }
 
 // What a refusal gives: an R number, which writes nothing, or a status with its extended number.
-#[derive(Drop)]
+#[derive(Clone, Copy)]
 pub enum Refusal {
     R { number: u8 },
     Status { status: u16, ext: u16 },
 }
 
-#[derive(Drop)]
+#[derive(Clone, Copy)]
 pub enum Verdict {
     Accepted,
     Refused(Refusal),
 }
 
 // The reply to an event: the verdict, and how many bytes of the answer buffer were written.
-#[derive(Drop)]
+#[derive(Clone, Copy)]
 pub struct Reply {
     pub verdict: Verdict,
     pub length: usize,
 }
 
 // The functions of the table, by name. `Unserved` stands for every index that the table lacks.
-#[derive(Drop)]
+#[derive(Clone, Copy)]
 pub enum Function {
     Mask,
     GetHealth,
@@ -152,7 +153,7 @@ pub enum Function {
 }
 
 // A row of the table: the function, the first revision that serves it, its request bytes (`more`: and any number after them), its answer bytes.
-#[derive(Drop)]
+#[derive(Clone, Copy)]
 pub struct Row {
     pub function: Function,
     pub since: u8,
@@ -162,7 +163,7 @@ pub struct Row {
 }
 
 // Why the received bytes are no good image, in the order of the tests: the size; then of a record its number, count, version and sum.
-#[derive(Drop)]
+#[derive(Clone, Copy)]
 pub enum Reason {
     Size,
     Number,
@@ -172,14 +173,14 @@ pub enum Reason {
 }
 
 // What the received bytes are: a good image with its version, or a bad one with its first fault, a reason and a record number.
-#[derive(Drop)]
+#[derive(Clone, Copy)]
 pub enum Image {
     Good { version: u64 },
     Bad { reason: Reason, number: u8 },
 }
 
 // What a 544-byte record of a log says. A call, a power cycle and a reading name their module (document 02, T-09).
-#[derive(Drop)]
+#[derive(Clone, Copy)]
 pub enum Entry {
     Call {
         named: u8,
@@ -202,7 +203,7 @@ pub enum Entry {
 }
 
 // A report's counts beside its grid: function 0 calls, which answer a mask; ticks; power cycles; readings; bad records; short tails.
-#[derive(Drop)]
+#[derive(Clone, Copy)]
 pub struct Counts {
     pub masks: u32,
     pub ticks: u32,
@@ -213,7 +214,7 @@ pub struct Counts {
 }
 
 // What making an image comes to: how many bytes were written, or why none was.
-#[derive(Drop)]
+#[derive(Clone, Copy)]
 pub enum Making {
     Made { length: usize },
     VersionZero,
@@ -222,7 +223,7 @@ pub enum Making {
 }
 
 // What reading an image back comes to, likewise.
-#[derive(Drop)]
+#[derive(Clone, Copy)]
 pub enum ReadingBack {
     Read { length: usize },
     NotGoodImage,
@@ -231,7 +232,7 @@ pub enum ReadingBack {
 
 // What a comparison of two logs comes to: how many leading places are equal, how many places differ, and how many bytes are left over; or that more differ than the
 // list holds, and how many in all.
-#[derive(Drop)]
+#[derive(Clone, Copy)]
 pub enum Comparison {
     Compared {
         leading: u64,

@@ -5,7 +5,7 @@ use mathlib.Core.{Path.{◌≡◌, refl, sym, ◌∙◌, ap, subst}, Logic.{◌�
 use lib.ListN.{length}
 use borrow.Author.Tests.{eqb-true, eq-eqb, leb-true, le-leb}
 use Rattle.rules.{specs.Tests.{◌=?◌, ◌≤?◌, ◌implies◌}, specs.Bytes.number_at, specs.Table.{table, row_of}, specs.Module.{call_of, call_in}, specs.Cabinet.{Event, call, tick, power, reading}}
-use Rattle.rules.{specs.Transfers.{History, Kind, Started, Sent, Finished, Ticked, Powered, Other}, specs.Hosts.{Carries, Uses, Answers, AnsweredTo, HonestAfter, Honest}}
+use Rattle.rules.{specs.Transfers.{History, Kind, Started, Sent, Finished, Ticked, Powered, Other}, specs.Hosts.{Carries, Uses, AnsweredTo, HonestAfter, Honest}}
 use Rattle.rules.{specs.declared.Row.Row, proofs.page.Choice.{and_true, or_true}}
 use Rattle.rules_demands.specs.Words.{what, answered_it, answered_to, uses_own, honest_after, honest?}
 use Rattle.rules_demands.proofs.{Places.looked_at, Words.kind_is}

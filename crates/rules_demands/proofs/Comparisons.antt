@@ -6,9 +6,9 @@ use native.Mathlib.Omega.{arith}
 use borrow.Author.Tests.{not-false}
 use lib.{ListN.{length, take, drop, get_or, length-take, length-drop}, Seq.{get_or-take, get_or-drop, ext_get_or, take_all, take-length}}
 use Rattle.rules.specs.{Tests.◌=?◌, Bytes.same?, Text.decimal, Log.record_at}
-use Rattle.rules.specs.Compare.{compared, places_in, Difference, places, leading, differences, place_equal, place_fields, rest, comparison, rest_after, differences_to, leading_to, compare_text, listed?, any?, Rising, FieldsTold}
+use Rattle.rules.specs.Compare.{compared, Difference, differences, place_equal, place_fields, rest_after, differences_to, leading_to, compare_text, listed?, any?, Rising, FieldsTold}
 use Rattle.rules.specs.declared.Comparison.{Comparison, TheVariants.Compared}
-use Rattle.rules.proofs.page.{Places.{same_refl, same_true, as_long}, Compared.{request_T06}}
+use Rattle.rules.proofs.page.{Places.{same_refl, same_true}, Compared.{request_T06}}
 use Rattle.rules_demands.specs.Comparisons.{numbers, among, SameBytes, ComparisonsWrittenOut, ComparisonsHeld}
 
 among_listed : (j : ℕ) (ds : List Difference) → among j (numbers ds) ≡ listed? j ds

@@ -1,7 +1,7 @@
 -- T-03 written out, from its theorems; its examples, by computation over the definitions.
 -- Assumes nothing.
 use Prim.Native.Nat.{ℕ, ◌/◌, ◌<◌}
-use mathlib.Core.{Path.{◌≡◌, refl, ap, subst, sym}, Logic.{◌↔◌, ◌⊎◌, inl, inr}, Bool.{Bool, true, false, ◌&&◌, ◌||◌, false≢true}, List.{List}}
+use mathlib.Core.{Path.{◌≡◌, refl, subst, sym}, Logic.{◌↔◌, ◌⊎◌, inl, inr}, Bool.{Bool, true, false, ◌&&◌, ◌||◌, false≢true}, List.{List}}
 use native.Mathlib.Omega.{arith}
 use lib.ListN.{length}
 use Rattle.rules.{specs.Bytes.zeros?, specs.Record.{possible, possible_transfer, possible_security, possible_thresholds, possible_reading, possible_parts, possible_trips, renewed}, specs.Adopt.{possible_alone, possible_parts_alone, possible_before, kept_before, adoptable, adopted, idle_again}}

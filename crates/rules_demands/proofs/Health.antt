@@ -1,10 +1,10 @@
 -- T-04 written out: words stand in the order of their heights; the rest from its theorem. Its examples, by computation over the definitions.
 -- Assumes nothing.
 use Prim.Native.Nat.{ℕ, ◌+◌, ◌-◌, ◌<◌}
-use mathlib.Core.{Path.{◌≡◌, refl, sym, ◌∙◌, ap}, Bool.{Bool, true, false, ◌&&◌}}
+use mathlib.Core.{Path.{◌≡◌, refl, sym, ◌∙◌}, Bool.{Bool, true, false}}
 use native.Mathlib.Omega.{arith}
 use borrow.Author.Tests.{lt-ltb, le-ltb, leb-true, leb-false, ltb-true}
-use Rattle.rules.specs.{Tests.{if◌then◌else◌, ◌≤?◌, ◌<?◌}, Health.{size, negative, above, trips}}
+use Rattle.rules.specs.{Tests.{◌<?◌}, Health.{size, negative, above, trips}}
 use Rattle.rules.proofs.page.Health.{request_T04}
 use Rattle.rules_demands.specs.Health.{height, HealthWrittenOut, HealthHeld}
 

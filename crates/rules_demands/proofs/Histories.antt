@@ -1,12 +1,12 @@
 -- Demand 3 written out follows from demand 3, and what holds from anywhere and with any hosts from the theorems that say it.
 -- Assumes nothing.
 use Prim.Native.Nat.{ℕ, ◌≤◌}
-use mathlib.Core.{Path.{◌≡◌, refl, sym, ◌∙◌, ap, subst}, Logic.{◌⊎◌, ◌↔◌, inl, inr}, Bool.{Bool, true, false, false≢true, ◌&&◌}, List.{List, [], ◌∷◌, ◌++◌}}
+use mathlib.Core.{Path.{◌≡◌, refl, sym, ◌∙◌, ap, subst}, Logic.{◌⊎◌, inl, inr}, Bool.{Bool, true, false, false≢true, ◌&&◌}, List.{List, [], ◌∷◌, ◌++◌}}
 use borrow.Author.Tests.{eqb-true, eq-eqb}
 use lib.ListN.{take}
 use Rattle.rules.{specs.Tests.{if◌then◌else◌, ◌=?◌}, specs.Numbers.verification, specs.Record.{Whole, ◌is◌, device_of}, specs.Fault.image_of, specs.Cabinet.{Event, tick, step}}
-use Rattle.rules.{specs.History.{All, keep, only, history_of, end, Same, ◌and_then◌}, specs.Transfers.{machine, Exchange, History, kind_of, none, AllInOrder, AllByStarter}}
-use Rattle.rules.{specs.Hosts.Honest, specs.Sends.{is_send_of, own_send, own_sends, others, pieces, SentBy, FinishedIn, ticks_in, power_cycles}}
+use Rattle.rules.{specs.History.{All, keep, only, history_of, Same, ◌and_then◌}, specs.Transfers.{machine, Exchange, History, kind_of, none, AllInOrder, AllByStarter}}
+use Rattle.rules.{specs.Hosts.Honest, specs.Sends.{is_send_of, own_send, own_sends, others, SentBy, FinishedIn, ticks_in, power_cycles}}
 use Rattle.rules.specs.Moves.{moved, ByMoves, as_it_is, one_more, rearranged}
 use Rattle.rules.specs.Demand3.{fresh_with, struck, Received, OwnPieces, AllMoved, received_in, staged_with, Stages, Due, StagedExactly, StagedAsSent, StagedOnce, OneWaits, NeverAgain, Demand3Of, Demand3, DemandOfWhatRemains, DemandFromAnywhere, DemandWithAnyHosts}
 use Rattle.rules.{specs.declared.Transfer.Transfer, specs.declared.Phase.Phase, specs.declared.Phase.TheVariants.Staged, proofs.page.Choice.and_true, proofs.page.Facts.is_phase}

@@ -1,7 +1,6 @@
 -- T-01 written out, from its theorem; its examples, by computation over the definitions.
 -- Assumes nothing.
-use mathlib.Core.{Path.{◌≡◌, refl, ap}, List.{List, ◌∷◌, ◌++◌}}
-use Prim.Native.Nat.{ℕ}
+use mathlib.Core.{Path.{refl, ap}, List.{◌∷◌, ◌++◌}}
 use Rattle.rules.{specs.Bytes.{zeros?, same?}, specs.Record.{possible, possible_transfer, possible_security, possible_thresholds, possible_reading, possible_parts, possible_trips, possible_cabinet}, specs.Refusals.verdict}
 use Rattle.rules.{specs.Table.{row_of, fits?, mask}, specs.Image.sum_of_words, specs.Fault.{record_fault, records_fault, first_fault, image_of}, specs.Cabinet.{call_result, tick_result, power_result, reading_result}, specs.Health.{above, trips}}
 use Rattle.rules.{specs.Text.decimal, specs.Log.entry_of, specs.Replay.whole_after}

@@ -2,8 +2,8 @@
 -- threshold and value; and the bytes of function 1.
 -- Assumes nothing.
 use Rattle.std.specs.Prelude.{ℕ, ◌+◌, ◌-◌, ◌<◌}
-use mathlib.Core.{Path.◌≡◌, Bool.{Bool, true, false}, List.{List, [], ◌∷◌, ◌++◌, map}}
-use lib.{ListN.replicate, IntN.{ℤ, pos, neg_ℤ}, Signed.◌<ℤ◌}
+use mathlib.Core.{Path.◌≡◌, Bool.{true, false}, List.{[], ◌∷◌, ◌++◌, map}}
+use lib.{ListN.replicate, IntN.{pos, neg_ℤ}, Signed.◌<ℤ◌}
 use Rattle.rules.specs.Tests.{if◌then◌else◌, ◌<?◌}
 use Rattle.rules.specs.Bytes.{on}
 use Rattle.rules.specs.Health.{new_reading, sixteenths, above, trips, health_answer}

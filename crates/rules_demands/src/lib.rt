@@ -1,6 +1,8 @@
 // The demands, each cited by a contract, so that the gate fails where its theorem is gone. Beside each stands the same promise written out with none of its
 // words (T-06's with those of a report, by bytes and numbers) and proved from it, so that the gate fails where the theorem says less. Demand 2 is what
 // crates/cabinet promises of the code.
+#![tactic(auto)]
+
 ghost use Rattle.rules.specs.Demand1.{Demand1};
 ghost use Rattle.rules.specs.Demand3.{Demand3};
 ghost use Rattle.rules.specs.Report.{RequestT01};

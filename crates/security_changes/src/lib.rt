@@ -1,4 +1,6 @@
 // Document 01, "Locking and passphrases": what an accepted Set Passphrase, Disable, Unlock and Freeze change, and what a power cycle does.
+#![tactic(auto)]
+
 ghost use Rattle.std.specs.Prelude.{◌≡◌, length};
 ghost use Rattle.rules.specs.With.{◌with_attempts◌};
 ghost use Rattle.rules.specs.Security.{set_passphrase_change, disable_change, unlock_change, freeze_change, security_power};

@@ -1,11 +1,10 @@
 -- Bytes are the same where the numbers in them are, so that a few numbers tell what many bytes would.
 -- Assumes nothing.
 use mathlib.Core.{Path.{◌≡◌, refl, sym, ◌∙◌, ap}, Bool.{Bool, true, false, ◌&&◌}, List.{List, [], ◌∷◌, ◌++◌}}
-use Prim.Native.Nat.{ℕ, zero, suc, ◌+◌, ◌*◌, ◌<◌, ◌≤◌}
+use Prim.Native.Nat.{ℕ, suc, ◌+◌, ◌*◌, ◌<◌, ◌≤◌}
 use native.Mathlib.Omega.{arith}
 use borrow.Author.Tests.{eq-eqb, ne_eqb, eqb-true, eqb-false}
-use lib.{Dec.eqb, ListN.{length, get_or, take, drop, length-drop}, Seq.{take-add, take_all, length-take-le}}
-use mir.{Syntax.w8, Val.Fits}
+use lib.{Dec.eqb, ListN.{length, take, drop, length-drop}, Seq.{take-add, take_all, length-take-le}}
 use Rattle.rules.specs.Bytes.{of_le, number_at, same?}
 use Rattle.bytes_numbers.proofs.Bytes.{Bytes, bytes_drop, bytes_take}
 

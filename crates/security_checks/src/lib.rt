@@ -1,4 +1,6 @@
 // The checks of Set Passphrase, Disable, Unlock and Freeze: the security state first, the passphrase last.
+#![tactic(auto)]
+
 ghost use Rattle.std.specs.Prelude.{◌≡◌, length};
 ghost use Rattle.rules.specs.Bytes.{same?};
 ghost use Rattle.rules.specs.Refusals.{verdict};
@@ -7,6 +9,7 @@ ghost use Rattle.rules.specs.Security.{Freeze, passphrase_checks, set_passphrase
 use rules::{ATTEMPT_LIMIT, Refusal, Security, Verdict};
 
 // The three checks of a call that carries a passphrase. Whether it is wrong is looked at last, so that a frozen module counts no attempts.
+#[tactic(auto, unfolding(rules::specs::Refusals::verdict))]
 fn judge_passphrase(s: Security, forbidden: bool, wrong: bool) -> Verdict
     ensures { result ≡ verdict (passphrase_checks s forbidden wrong) }
 {
@@ -70,6 +73,7 @@ pub fn judge_unlock(s: Security, given: &[u8]) -> Verdict
 }
 
 // Freeze carries no passphrase: nothing but the frozen state and the limit stands against it.
+#[tactic(auto, unfolding(rules::specs::Refusals::verdict))]
 pub fn judge_freeze(s: Security) -> Verdict
     ensures { result ≡ verdict (security_checks s Freeze) }
 {

@@ -1,4 +1,6 @@
 // Text written into a lent buffer at a place; each function answers the place after what it wrote.
+#![tactic(auto)]
+
 ghost use Rattle.std.specs.Prelude.{◌++◌, ◌+◌, ◌≤◌, length};
 ghost use Rattle.rules.specs.Text.{decimal};
 ghost use Rattle.text.specs.Wrote.{Wrote, WroteWithin};

@@ -1,7 +1,7 @@
 -- The name of a phase that is known.
 -- Assumes nothing.
 use mathlib.Core.{Path.{◌≡◌, sym, ap}, List.List}
-use Prim.Native.Nat.{ℕ, ◌≤◌, ◌+◌}
+use Prim.Native.Nat.{ℕ, ◌≤◌}
 use native.Mathlib.Omega.{arith}
 use lib.ListN.{length}
 use Rattle.rules.{specs.Text.ascii, specs.Replay.phase_name, specs.declared.Phase.Phase, specs.declared.Phase.TheVariants.{Idle, Receiving, Verifying, Staged, Failed}}

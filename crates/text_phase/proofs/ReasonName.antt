@@ -1,7 +1,7 @@
 -- The name of a reason that is known, by the tests that lead to it.
 -- Assumes nothing.
 use mathlib.Core.{Path.{◌≡◌, ap}, Bool.{true, false}, List.List}
-use Prim.Native.Nat.{ℕ, ◌≤◌, ◌+◌}
+use Prim.Native.Nat.{ℕ, ◌≤◌}
 use Prim.Native.String.{String}
 use native.Mathlib.Omega.{arith}
 use lib.ListN.{length}

@@ -1,4 +1,6 @@
 // The name of a phase and of a fault's reason, written into a lent buffer at a place.
+#![tactic(auto)]
+
 ghost use Rattle.std.specs.Prelude.{◌+◌, ◌≤◌, length};
 ghost use Rattle.rules.specs.Text.{ascii};
 ghost use Rattle.rules.specs.Replay.{phase_name, reason_name};

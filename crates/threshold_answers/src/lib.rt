@@ -1,4 +1,6 @@
 // Document 01, "Thresholds": the answer of Get Threshold.
+#![tactic(auto)]
+
 ghost use Rattle.std.specs.Prelude.{◌≡◌, ◌++◌, ◌≤◌, length};
 ghost use Rattle.rules.specs.Numbers.{answer_room};
 ghost use Rattle.rules.specs.Bytes.{splice};

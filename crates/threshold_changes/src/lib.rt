@@ -1,4 +1,6 @@
 // Document 01, "Thresholds": what an accepted Set Threshold changes, in the thresholds' part of the record.
+#![tactic(auto)]
+
 ghost use Rattle.std.specs.Prelude.{◌≡◌, length};
 ghost use Rattle.rules.specs.Thresholds.{set_threshold_of, threshold_change};
 

@@ -1,4 +1,6 @@
 // The answers of an accepted Get FW Info, Start and Query.
+#![tactic(auto)]
+
 ghost use Rattle.std.specs.Prelude.{◌≡◌, ◌++◌, ◌≤◌, length};
 ghost use Rattle.rules.specs.Numbers.{answer_room};
 ghost use Rattle.rules.specs.Bytes.{splice};

@@ -1,4 +1,6 @@
 // Document 01, "A firmware transfer": what an accepted Start, Send and Finish change, in the transfer's part of the record and in the staging area.
+#![tactic(auto)]
+
 ghost use Rattle.std.specs.Prelude.{◌≡◌, Bool, ℕ, ◌≤◌, ◌<◌, length};
 ghost use Rattle.rules.specs.Bytes.{splice};
 ghost use Rattle.rules.specs.Numbers.{area_size, last_context};

@@ -1,10 +1,13 @@
 // The checks of Finish, and of Query, which asks what came of it, in the page's order. The other module has no part in them.
+#![tactic(auto)]
+
 ghost use Rattle.std.specs.Prelude.{◌≡◌, Bool, ℕ, length};
 ghost use Rattle.rules.specs.Refusals.{verdict};
 ghost use Rattle.rules.specs.Transfer.{finish_of, query_of, transfer_checks};
 
 use rules::{Refusal, Transfer, Verdict};
 
+#[tactic(auto, unfolding(rules::specs::Refusals::verdict))]
 pub fn judge_finish(t: Transfer, request: &[u8]) -> Verdict
     requires { length request.now ≡ 8 }
     ensures { (given : ℕ) (taken : Bool) → result ≡ verdict (transfer_checks t given taken (finish_of request.now)) }
@@ -34,6 +37,7 @@ pub fn judge_finish(t: Transfer, request: &[u8]) -> Verdict
     Verdict::Accepted
 }
 
+#[tactic(auto, unfolding(rules::specs::Refusals::verdict))]
 pub fn judge_query(t: Transfer, request: &[u8]) -> Verdict
     requires { length request.now ≡ 4 }
     ensures { (given : ℕ) (taken : Bool) → result ≡ verdict (transfer_checks t given taken (query_of request.now)) }

@@ -1,4 +1,6 @@
 // The checks of Send, in the page's order.
+#![tactic(auto)]
+
 ghost use Rattle.std.specs.Prelude.{◌≡◌, Bool, ℕ, ◌≤◌, length};
 ghost use Rattle.rules.specs.Refusals.{verdict};
 ghost use Rattle.rules.specs.Transfer.{send_of, transfer_checks};
@@ -6,6 +8,7 @@ ghost use Rattle.rules.specs.Transfer.{send_of, transfer_checks};
 use rules::{AREA_SIZE, LONGEST_PIECE, Refusal, Transfer, Verdict};
 
 // The other module has no part in them. Offset and length are added in 64 bits, where their sum is exact.
+#[tactic(auto, unfolding(rules::specs::Refusals::verdict))]
 pub fn judge_send(t: Transfer, request: &[u8]) -> Verdict
     requires { 12 ≤ length request.now }
     ensures { (given : ℕ) (taken : Bool) → result ≡ verdict (transfer_checks t given taken (send_of request.now)) }

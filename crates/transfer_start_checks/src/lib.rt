@@ -1,10 +1,13 @@
 // The checks of Start, in the page's order: its own phase, then what the cabinet says, whether the other module has the area and how many contexts are given out.
+#![tactic(auto)]
+
 ghost use Rattle.std.specs.Prelude.{◌≡◌};
 ghost use Rattle.rules.specs.Refusals.{verdict};
 ghost use Rattle.rules.specs.Transfer.{start_checks};
 
 use rules::{LAST_CONTEXT, Refusal, Transfer, Verdict};
 
+#[tactic(auto, unfolding(rules::specs::Refusals::verdict))]
 pub fn judge_start(t: Transfer, given: u32, taken: bool) -> Verdict
     ensures { result ≡ verdict (start_checks t given taken) }
 {

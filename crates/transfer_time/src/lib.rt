@@ -1,4 +1,6 @@
 // Document 01, "A firmware transfer": what a tick and a power cycle change in the transfer's part of the record.
+#![tactic(auto)]
+
 ghost use Rattle.std.specs.Prelude.{◌≡◌, ◌≤◌, length};
 ghost use Rattle.rules.specs.Fault.{reason_number};
 ghost use Rattle.rules.specs.Transfer.{tick_change, after_verifying, transfer_power, running_after};

@@ -166,6 +166,9 @@ moving_no_finish : (own n c : ℕ) (k : Kind) → Moving own k → is_finish_of 
 moving_no_finish own n c Ticked as_tick = refl
 moving_no_finish own n c Other as_other = refl
 moving_no_finish own n c (Powered named) (as_power k o) = refl
+moving_no_finish own n c (Started named host context) m = elim m [ ]
+moving_no_finish own n c (Sent named host context offset piece) m = elim m [ ]
+moving_no_finish own n c (Finished named host context flag) m = elim m [ ]
 
 no_finish : (first : Bool) (n c : ℕ) (x : Exchange) → Unstopped x → Within first c x → its_finish n c x ≡ false
 no_finish first n c x u (inl q) = send_no_finish n c (kind_of x) q.0

@@ -32,6 +32,9 @@ moving_opens : (own host c : ℕ) (bytes : List ℕ) (k : Kind) → Moving own k
 moving_opens own host c bytes Ticked as_tick = refl
 moving_opens own host c bytes Other as_other = refl
 moving_opens own host c bytes (Powered named) (as_power n o) = ap (λ (b : Bool). if b then none else by own host c bytes) (ne_eqb named own o)
+moving_opens own host c bytes (Started named _ context) m = elim m [ ]
+moving_opens own host c bytes (Sent named _ context offset piece) m = elim m [ ]
+moving_opens own host c bytes (Finished named _ context flag) m = elim m [ ]
 
 -- what is open after what stands between
 between_step : (first : Bool) (host c : ℕ) (bytes : List ℕ) (x : Exchange) (mid : History) → Unstopped x → Within first c x

@@ -130,6 +130,9 @@ moving_no_start : (own : ℕ) (k : Kind) → Moving own k → NoStart k
 moving_no_start own Ticked as_tick = tt
 moving_no_start own Other as_other = tt
 moving_no_start own (Powered named) (as_power n o) = tt
+moving_no_start own (Started named host context) m = elim m [ ]
+moving_no_start own (Sent named host context offset piece) m = elim m [ ]
+moving_no_start own (Finished named host context flag) m = elim m [ ]
 
 within_no_start : (first : Bool) (c : ℕ) (mid : History) → All Unstopped mid → All (Within first c) mid → All (λ x. NoStart (kind_of x)) mid
 within_no_start first c [] u a = tt

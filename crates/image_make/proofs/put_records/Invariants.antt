@@ -1,0 +1,14 @@
+-- `image_make::put_records` meets its contract: past each record the front of the output holds those so far, and the rest is as it came.
+-- Assumes nothing.
+use Prim.Native.Nat.{◌≤◌, ◌-◌}
+use mathlib.Core.Path.{◌≡◌}
+use lib.ListN.{length}
+use Rattle.rules.specs.Bytes.{splice}
+use Rattle.rules.specs.Made.{made_record, made_records}
+use Rattle.image_make.proofs.put_records.Given as goal
+
+abbrev pub invariant-loop-i : goal.invariant-loop-i
+invariant-loop-i l = (l.i ≤ l.records) × (length l.output ≡ length l.initial.output) × (l.output ≡ splice 0 (made_records l.i l.first l.n l.version l.payload) l.initial.output)
+
+abbrev pub decreases-loop-i : goal.decreases-loop-i
+decreases-loop-i l = l.records - l.i
