@@ -11,6 +11,6 @@ use Rattle.image_make.proofs.put_last.Goals as goal
 
 pub returns : goal.returns
 returns c = let a = c.args in
-    let padded = part_padded (a.full * 112) a.payload.now c.requires.0.1 c.requires.0.2 c.copy.ensures in
-    record_lent a.full a.full a.n a.version a.output.now _ _ c.requires.1 (search rules) (one_record a.full a.n a.version _ _ (search rules) (search rules) c.put_records.ensures)
+    let padded = part_padded (a.full * 112) a.payload.now c.requires.full_bound.1 c.requires.full_bound.2 c.copy.ensures in
+    record_lent a.full a.full a.n a.version a.output.now _ _ c.requires.full_in_bounds (search rules) (one_record a.full a.n a.version _ _ (search rules) (search rules) c.put_records.ensures)
     ∙ ap (λ (part : List ℕ). splice (a.full * 128) (made_record a.full a.n a.version part) a.output.now) padded

@@ -1,6 +1,5 @@
 -- `image_make::put_parts` meets its contract: past each record the front of the output holds the parts so far, and the rest is as it came.
 -- Assumes nothing.
-use Prim.Native.Nat.{◌-◌}
 use native.Mathlib.Omega.{arith}
 use borrow.Author.Rules.{rules}
 use Rattle.image_make.proofs.Laws.{part_behind}

@@ -8,18 +8,18 @@ use Rattle.image_make.proofs.Answers.{image_refused, room_refused, read}
 use Rattle.image_make.proofs.read_back.Goals as goal
 
 pub returns-then-output-length : goal.returns-then-output-length
-returns-then-output-length c = (room_refused _ _ (sym c.image-found.ensures ∙ c.enum_told-in-Good-1.given.1) c.if-output-length.true, refl)
+returns-then-output-length c = record { value = room_refused _ _ (sym c.image-found.ensures ∙ c.in-Good.is) c.if-output-length.true; output_after = refl }
 
 pub put_parts-requires : goal.put_parts-requires
-put_parts-requires c κs = let sized = (known _ _ (sym c.image-found.ensures ∙ c.enum_told-in-Good-1.given.1)).sized in
+put_parts-requires c = let sized = (known _ _ (sym c.image-found.ensures ∙ c.in-Good.is)).sized in
     (sized.few, omega (arith, sized.whole), c.if-output-length.false)
 
 pub returns-in-Bad : goal.returns-in-Bad
-returns-in-Bad c = (image_refused _ _ (sym c.image-found.ensures ∙ c.enum_told-1.given.1), refl)
+returns-in-Bad c = record { value = image_refused _ _ (sym c.image-found.ensures ∙ c.in-Bad.is); output_after = refl }
 
 pub returns-else-output-length : goal.returns-else-output-length
 unfolding payload_of
-returns-else-output-length c = (
-  read _ _ (sym c.image-found.ensures ∙ c.enum_told-in-Good-1.given.1) c.if-output-length.false,
-  c.put_parts.ensures,
-)
+returns-else-output-length c = record {
+  value = read _ _ (sym c.image-found.ensures ∙ c.in-Good.is) c.if-output-length.false;
+  output_after = c.put_parts.ensures;
+}
