@@ -4,7 +4,8 @@ use mathlib.Core.{Path.{◌≡◌, refl, sym, ◌∙◌, ap}, Bool.{Bool, true, 
 use Prim.Native.Nat.{ℕ}
 use lib.{IntN.{ℤ, pos}, ListN.length}
 use borrow.Author.Tests.{not-true, not-false, eqb-true}
-use Rattle.rules.{specs.Tests.{if◌then◌else◌, ◌=?◌}, specs.Adopt.{possible_alone, kept_before, adoptable, adopted_cabinet}, specs.declared.Device.Device, specs.declared.Cabinet.Cabinet}
+use Rattle.std.specs.Prelude.{if◌then◌else◌}
+use Rattle.rules.{specs.Tests.{◌=?◌}, specs.Adopt.{possible_alone, kept_before, adoptable, adopted_cabinet}, specs.declared.Device.Device, specs.declared.Cabinet.Cabinet}
 use Rattle.rules.proofs.page.Choice.{and_true}
 use Rattle.device_bytes.specs.Encoding.{decode_of}
 use Rattle.cabinet_bytes.specs.Encoding.{cabinet_size, encode_cabinet}

@@ -6,7 +6,8 @@ use Prim.Native.Nat.{ℕ, ◌≤◌}
 use native.Mathlib.Omega.{arith}
 use lib.{Dec.lit≤, IntN.ℤ, ListN.length}
 use borrow.Author.Tests.{not-false}
-use Rattle.rules.{specs.Tests.{if◌then◌else◌, ◌=?◌}, specs.Numbers.answer_room, specs.Record.{possible_cabinet, device_of, other_of, with_device_at, Whole, whole_of, standing}}
+use Rattle.std.specs.Prelude.{if◌then◌else◌}
+use Rattle.rules.{specs.Tests.{◌=?◌}, specs.Numbers.answer_room, specs.Record.{possible_cabinet, device_of, other_of, with_device_at, Whole, whole_of, standing}}
 use Rattle.rules.{specs.Refusals.{Check, verdict, tick_checks, event_checks, status_length, one_attempt_more, record_left}, specs.Table.{row_of, served_check, length_check}}
 use Rattle.rules.{specs.Module.{call_in, checks, change}, specs.Cabinet.{Result, call_checks, outcome, happened, ticked, call_result}, specs.declared.Refusal.TheVariants.{R, Status}}
 use Rattle.rules.{specs.declared.Verdict.Verdict, specs.declared.Verdict.TheVariants.{Accepted, Refused}, specs.declared.Reply.Reply, specs.declared.Device.Device}

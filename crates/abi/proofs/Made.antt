@@ -4,7 +4,8 @@ use mathlib.Core.{Path.{◌≡◌, sym, ◌∙◌, ap}, Bool.Bool, List.List}
 use Prim.Native.Nat.{ℕ}
 use lib.{IntN.{ℤ, pos}, ListN.length}
 use borrow.Author.Tests.{eq-eqb, ne_eqb}
-use Rattle.rules.{specs.Tests.if◌then◌else◌, specs.Record.fresh_cabinet}
+use Rattle.std.specs.Prelude.{if◌then◌else◌}
+use Rattle.rules.{specs.specs.Record.fresh_cabinet}
 use Rattle.cabinet_bytes.specs.Encoding.{cabinet_size, encode_cabinet}
 use Rattle.abi_keep.specs.Kept.{refusal}
 use Rattle.abi.specs.Abi.{Made}

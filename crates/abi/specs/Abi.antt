@@ -3,7 +3,8 @@
 -- Assumes nothing.
 use mathlib.Core.{Path.◌≡◌, Bool.{Bool, ◌&&◌}, List.List}
 use Rattle.std.specs.Prelude.{ℕ, ℤ, pos, length}
-use Rattle.rules.specs.Tests.{if◌then◌else◌, ◌=?◌}
+use Rattle.std.specs.Prelude.{if◌then◌else◌}
+use Rattle.rules.specs.Tests.{◌=?◌}
 use Rattle.rules.specs.Record.{fresh_cabinet}
 use Rattle.rules.specs.Adopt.{adoptable, adopted_cabinet}
 use Rattle.rules.specs.Cabinet.{Result}

@@ -3,7 +3,8 @@
 use mathlib.Core.{Path.{◌≡◌, sym, ◌∙◌, ap}, Bool.{Bool, true, false}, List.List}
 use Prim.Native.Nat.{ℕ}
 use lib.IntN.{ℤ}
-use Rattle.rules.{specs.Tests.if◌then◌else◌, specs.declared.Verdict.Verdict, specs.declared.Reply.Reply, specs.declared.Cabinet.Cabinet}
+use Rattle.std.specs.Prelude.{if◌then◌else◌}
+use Rattle.rules.{specs.specs.declared.Verdict.Verdict, specs.declared.Reply.Reply, specs.declared.Cabinet.Cabinet}
 use Rattle.cabinet_bytes.specs.Encoding.{encode_cabinet}
 use Rattle.abi_keep.specs.Kept.{told, writes, kept_by, Leaves}
 

@@ -2,7 +2,8 @@
 -- Assumes nothing.
 use mathlib.Core.{Path.◌≡◌, Bool.{Bool, true, false}, List.List}
 use Rattle.std.specs.Prelude.{ℕ, ◌≤◌, ℤ, pos, neg_ℤ, length}
-use Rattle.rules.specs.Tests.{if◌then◌else◌, ◌=?◌}
+use Rattle.std.specs.Prelude.{if◌then◌else◌}
+use Rattle.rules.specs.Tests.{◌=?◌}
 use Rattle.rules.specs.Numbers.{answer_room}
 use Rattle.rules.specs.Cabinet.{Result}
 use Rattle.rules.specs.declared.{Refusal.TheVariants.{R, Status}, Verdict.Verdict, Verdict.TheVariants.{Accepted, Refused}, Reply.Reply, Cabinet.Cabinet}

@@ -3,7 +3,8 @@
 use mathlib.Core.{Path.{◌≡◌, refl, sym, ◌∙◌, ap, subst}, Bool.{Bool, true, false}, List.{List, [], ◌∷◌, ◌++◌}}
 use Prim.Native.Nat.{ℕ, ◌≤◌, ◌-◌}
 use lib.{Dec.lit≤, ListN.length}
-use Rattle.rules.{specs.Tests.{if◌then◌else◌, ◌=?◌}, specs.Bytes.zeros, specs.Numbers.answer_room, specs.Record.{Whole, whole_of, standing}}
+use Rattle.std.specs.Prelude.{if◌then◌else◌}
+use Rattle.rules.{specs.Tests.{◌=?◌}, specs.Bytes.zeros, specs.Numbers.answer_room, specs.Record.{Whole, whole_of, standing}}
 use Rattle.rules.{specs.Refusals.{Check, verdict, status_bytes, status_length, answer_after, record_left}, specs.Table.{row_of, served_check, length_check}}
 use Rattle.rules.{specs.Module.{call_of, call_in, checks}, specs.Cabinet.{Result, gate_checks, call_checks, outcome, happened, call_result}}
 use Rattle.rules.{specs.declared.Refusal.Refusal, specs.declared.Refusal.TheVariants.{R, Status}, specs.declared.Verdict.Verdict}

@@ -4,7 +4,8 @@ use mathlib.Core.{Path.{◌≡◌, sym, ◌∙◌, ap}, Bool.{Bool, true, false}
 use Prim.Native.Nat.{ℕ, ◌≤◌, ◌+◌}
 use native.Mathlib.Omega.{arith}
 use lib.{ListN.{length, take, drop, length-drop, drop_of_length-le}, Seq.{take-add, take_all, drop-drop}}
-use Rattle.rules.{specs.Tests.{if◌then◌else◌, ◌=?◌}, specs.Bytes.{le, zeros, splice}, specs.Record.{possible_cabinet, device_of, other_of}, specs.declared.{Cabinet.Cabinet}}
+use Rattle.std.specs.Prelude.{if◌then◌else◌}
+use Rattle.rules.{specs.Tests.{◌=?◌}, specs.Bytes.{le, zeros, splice}, specs.Record.{possible_cabinet, device_of, other_of}, specs.declared.{Cabinet.Cabinet}}
 use Rattle.bytes_numbers.proofs.Bytes.{Bytes}
 use Rattle.device_bytes.specs.Encoding.{encode_of}
 use Rattle.cabinet_bytes.specs.Encoding.{module_place, module_bytes, encode_cabinet, cabinet_of, decode_cabinet, Around}

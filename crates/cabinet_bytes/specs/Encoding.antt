@@ -4,7 +4,8 @@
 use Rattle.std.specs.Prelude.{ℕ}
 use mathlib.Core.{Path.◌≡◌, List.{List, ◌++◌}, Bool.{Bool, ◌&&◌}}
 use Rattle.std.specs.Prelude.{length, take, drop}
-use Rattle.rules.{specs.Tests.{if◌then◌else◌, ◌=?◌}, specs.Bytes.{le, number_at, zeros, zeros?}, specs.Record.other_of, specs.declared.Cabinet.Cabinet}
+use Rattle.std.specs.Prelude.{if◌then◌else◌}
+use Rattle.rules.{specs.Tests.{◌=?◌}, specs.Bytes.{le, number_at, zeros, zeros?}, specs.Record.other_of, specs.declared.Cabinet.Cabinet}
 use Rattle.device_bytes.specs.Encoding.{encoded_size, encode_of, impossible, decode_of}
 
 -- the bytes of a record

@@ -5,7 +5,8 @@ use Prim.Native.Nat.{ℕ, zero, suc, ◌≤◌, ◌<◌, ◌+◌, ◌-◌, ◌*�
 use native.Mathlib.Omega.{arith}
 use lib.{IntN.pos, ListN.{length, get_or, take, drop, length-append, length-drop}, Seq.{take_at, length-take-le, ext_get_or}}
 use borrow.Author.Tests.{eqb-true, eq-eqb, leb-true, le-leb}
-use Rattle.rules.{specs.Tests.{if◌then◌else◌, ◌≤?◌, ◌=?◌}, specs.Bytes.{splice, zeros}, specs.Record.fresh_cabinet, proofs.page.Choice.and_true}
+use Rattle.std.specs.Prelude.{if◌then◌else◌}
+use Rattle.rules.{specs.Tests.{◌≤?◌, ◌=?◌}, specs.Bytes.{splice, zeros}, specs.Record.fresh_cabinet, proofs.page.Choice.and_true}
 use Rattle.cabinet_bytes.specs.Encoding.{cabinet_size, encode_cabinet}
 use Rattle.cabinet_slots.specs.Slots.{slots_size, slot_place, slot, selector, other, slots?, refused, writable, write_number, write_slots, selectable, select_number, select_slots}
 use Rattle.cabinet_slots.specs.Torn.{Torn, Reads, WriteLeaves, WriteKeeps, SelectWhole, SelectOnce, SelectGives, FreshReads, NoSlots, Updates}

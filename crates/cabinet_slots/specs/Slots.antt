@@ -4,7 +4,8 @@
 use Rattle.std.specs.Prelude.{ℕ, ◌+◌, ◌-◌, ◌*◌}
 use mathlib.Core.{List.{List, ◌∷◌, ◌++◌}, Bool.{Bool, ◌&&◌}}
 use Rattle.std.specs.Prelude.{ℤ, pos, neg_ℤ, length, get_or, take, drop}
-use Rattle.rules.specs.Tests.{if◌then◌else◌, ◌≤?◌, ◌=?◌}
+use Rattle.std.specs.Prelude.{if◌then◌else◌}
+use Rattle.rules.specs.Tests.{◌≤?◌, ◌=?◌}
 use Rattle.rules.specs.Bytes.{splice, zeros}
 use Rattle.rules.specs.Record.{fresh_cabinet}
 use Rattle.cabinet_bytes.specs.Encoding.{cabinet_size, encode_cabinet}

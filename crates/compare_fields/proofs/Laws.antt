@@ -3,7 +3,8 @@
 use mathlib.Core.{Path.{◌≡◌, refl, sym, ◌∙◌, ap}, Bool.{Bool, true, false, not, ◌&&◌}, List.{List, [], ◌∷◌}}
 use Prim.Native.Nat.{ℕ, suc, ◌+◌, ◌*◌, ◌≤◌, ◌<◌}
 use lib.{Dec.eqb, ListN.{length, get_or, take, drop, drop_of_length-le}, Seq.{drop-cons, drop-drop}}
-use Rattle.rules.specs.{Tests.{if◌then◌else◌, ◌=?◌}, Bytes.same?}
+use Rattle.std.specs.Prelude.{if◌then◌else◌}
+use Rattle.rules.specs.{Tests.{◌=?◌}, Bytes.same?}
 
 and_true : (a : Bool) → (a && true) ≡ a
 and_true true = refl

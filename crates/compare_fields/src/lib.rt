@@ -2,7 +2,7 @@
 #![tactic(auto)]
 
 ghost use Rattle.std.specs.Prelude.{◌≡◌, not, ◌+◌, ◌*◌, ◌≤◌, length, take, drop};
-ghost use Rattle.rules.specs.Tests.{if◌then◌else◌};
+ghost use Rattle.std.specs.Prelude.{if◌then◌else◌};
 ghost use Rattle.rules.specs.Bytes.{same?};
 ghost use Rattle.rules.specs.Log.{request_bytes};
 ghost use Rattle.rules.specs.Compare.{fields_differing, field_bits};

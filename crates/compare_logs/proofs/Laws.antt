@@ -6,7 +6,8 @@ use native.Mathlib.{Nat.zero-add, Omega.arith}
 use borrow.Author.Tests.{le-leb, lt-leb, leb-true, leb-false}
 use lib.{ListN.{length, take, drop, length-take, length-drop}, Seq.sets-eq}
 use denote.Ref.{Bor}
-use Rattle.rules.{specs.Tests.{if◌then◌else◌, ◌≤?◌}, specs.Bytes.splice, proofs.page.Places.as_long, proofs.page.Compared.{as_many, request_T06}, specs.declared.Comparison.Comparison, specs.declared.Comparison.TheVariants.{Compared, Full}}
+use Rattle.std.specs.Prelude.{if◌then◌else◌}
+use Rattle.rules.{specs.Tests.{◌≤?◌}, specs.Bytes.splice, proofs.page.Places.as_long, proofs.page.Compared.{as_many, request_T06}, specs.declared.Comparison.Comparison, specs.declared.Comparison.TheVariants.{Compared, Full}}
 use Rattle.rules.specs.Compare.{compared, beyond, Difference, leading, differences, left, comparison, entries, list_after, rest_after, rest as rest_of}
 use Rattle.compare_places.{specs.declared.SoFar.SoFar, specs.SoFar.{none_places, part_counted, part_listed}}
 use Rattle.bytes_base.proofs.Parts.{rest}

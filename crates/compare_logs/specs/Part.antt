@@ -3,7 +3,8 @@
 use Rattle.std.specs.Prelude.{ℕ, ◌+◌, ◌<◌, ◌≤◌, length, drop}
 use mathlib.Core.{Path.◌≡◌, List.List}
 use Rattle.std.specs.Borrow.{Bor}
-use Rattle.rules.specs.{Tests.{if◌then◌else◌, ◌≤?◌}, declared.Comparison.Comparison, declared.Comparison.TheVariants.{Compared, Full}}
+use Rattle.std.specs.Prelude.{if◌then◌else◌}
+use Rattle.rules.specs.{Tests.{◌≤?◌}, declared.Comparison.Comparison, declared.Comparison.TheVariants.{Compared, Full}}
 use Rattle.rules.specs.Compare.{differences, comparison}
 
 -- the part of a log from a byte on: where it begins in memory, and its bytes

@@ -4,7 +4,8 @@ use mathlib.Core.{Path.{◌≡◌, refl, sym, ◌∙◌, ap}, Bool.{Bool, true, 
 use Prim.Native.Nat.{ℕ, zero, suc, ◌+◌, ◌-◌, ◌*◌, ◌≤◌, ◌<◌}
 use native.Mathlib.{Nat.{add-zero, add_assoc, add-sub_cancel_left}, Omega.arith}
 use lib.{ListN.{length, take, drop, set, length-append, length-drop}, Seq.{sets, length-sets, take_all}}
-use Rattle.rules.specs.{Tests.{if◌then◌else◌, ◌=?◌}, Bytes.same?, Log.record_at}
+use Rattle.std.specs.Prelude.{if◌then◌else◌}
+use Rattle.rules.specs.{Tests.{◌=?◌}, Bytes.same?, Log.record_at}
 use Rattle.rules.specs.Compare.{fields_differing, field_bits, Difference, difference_at, differences_to, leading_on, leading_to, entry, entries}
 use Rattle.rules.proofs.page.Compared.{as_many}
 use Rattle.bytes_base.proofs.Parts.{rest}

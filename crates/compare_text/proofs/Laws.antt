@@ -5,7 +5,8 @@ use Prim.Native.String.{String}
 use mathlib.Core.{Path.{◌≡◌, sym, ◌∙◌, ap, subst}, Bool.{Bool, true, false}, List.{List, [], ◌∷◌, ◌++◌, append_assoc, append-nil}}
 use native.Mathlib.{Nat.add-zero, Omega.arith}
 use lib.{ListN.{length, get_or, take, drop, take-append-drop}, Seq.{take-suc}}
-use Rattle.rules.specs.{Tests.{if◌then◌else◌, ◌=?◌}, Text.{ascii, decimal, field}, Compare.field_names}
+use Rattle.std.specs.Prelude.{if◌then◌else◌}
+use Rattle.rules.specs.{Tests.{◌=?◌}, Text.{ascii, decimal, field}, Compare.field_names}
 use Rattle.text.{specs.Wrote.{Wrote, WroteWithin}, proofs.Writing.{and_then, rewrote}}
 use Rattle.compare_text.specs.Lines.{names_of, entry_line, entry_lines, report_text, report_room, EntriesThere}
 use Rattle.rules.specs.declared.{Comparison.Comparison, Comparison.TheVariants.{Compared, Full}}

@@ -6,7 +6,8 @@ use mathlib.Core.{Path.{◌≡◌, refl, sym, ◌∙◌, ap}, Bool.{Bool, true, 
 use native.Mathlib.{Omega.arith}
 use borrow.Author.Tests.{leb-true, leb-false}
 use lib.{ListN.{length, take, drop}, Seq.take_at}
-use Rattle.rules.{specs.Tests.{if◌then◌else◌, ◌≤?◌, ◌=?◌}, specs.Bytes.same?, specs.Text.{ascii, decimal, field}, specs.Log.{record_at, kind_bytes, host_bytes, revision_bytes, function_bytes, length_bytes, request_bytes}}
+use Rattle.std.specs.Prelude.{if◌then◌else◌}
+use Rattle.rules.{specs.Tests.{◌≤?◌, ◌=?◌}, specs.Bytes.same?, specs.Text.{ascii, decimal, field}, specs.Log.{record_at, kind_bytes, host_bytes, revision_bytes, function_bytes, length_bytes, request_bytes}}
 use Rattle.rules.specs.Compare.{fields_differing, Difference, difference_at, differences_to, places, compared, differences, leading, left, comparison, field_bits, entry, entries, list_after, field_names, named, difference_line, difference_lines, comparison_text}
 use Rattle.rules.proofs.page.Compared.{as_many, request_T06}
 use Rattle.rules.specs.declared.{Comparison.Comparison}

@@ -4,7 +4,8 @@ use Rattle.std.specs.Prelude.{ℕ, ◌+◌, ◌*◌, ◌/◌, ◌%◌, ◌≤◌
 use Prim.Native.String.{String}
 use mathlib.Core.{Path.◌≡◌, List.{List, [], ◌∷◌, ◌++◌}}
 use Rattle.std.specs.Prelude.{length, take}
-use Rattle.rules.specs.{Tests.{if◌then◌else◌, ◌=?◌}, Text.{ascii, decimal, field}}
+use Rattle.std.specs.Prelude.{if◌then◌else◌}
+use Rattle.rules.specs.{Tests.{◌=?◌}, Text.{ascii, decimal, field}}
 use Rattle.rules.specs.Compare.{field_names, comparison, list_after, differences, comparison_text}
 use Rattle.rules.specs.declared.{Comparison.Comparison, Comparison.TheVariants.{Compared, Full}}
 

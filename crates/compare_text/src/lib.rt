@@ -2,7 +2,8 @@
 #![tactic(auto)]
 
 ghost use Rattle.std.specs.Prelude.{◌∷◌, [], ◌++◌, ◌+◌, ◌*◌, ◌/◌, ◌%◌, ◌≤◌, length, take};
-ghost use Rattle.rules.specs.Tests.{if◌then◌else◌, ◌=?◌};
+ghost use Rattle.std.specs.Prelude.{if◌then◌else◌};
+ghost use Rattle.rules.specs.Tests.{◌=?◌};
 ghost use Rattle.rules.specs.Text.{decimal};
 ghost use Rattle.text.specs.Wrote.{WroteWithin};
 ghost use Rattle.compare_text.specs.Lines.{names_of, entry_line, entry_lines, report_text, report_room, EntriesThere, TextOfReport};

@@ -5,7 +5,8 @@ use Prim.Native.Nat.{ℕ, min, ◌+◌, ◌*◌, ◌-◌, ◌/◌, ◌≤◌, �
 use native.Mathlib.{Omega.arith}
 use borrow.Author.Tests.{leb-true}
 use lib.ListN.{length, take, length-take}
-use Rattle.rules.specs.{Tests.{if◌then◌else◌, ◌≤?◌}, Compare.{places_in, list_room}}
+use Rattle.std.specs.Prelude.{if◌then◌else◌}
+use Rattle.rules.specs.{Tests.{◌≤?◌}, Compare.{places_in, list_room}}
 use Rattle.rules.specs.declared.{Comparison.Comparison, Comparison.TheVariants.{Compared, Full}}
 use Rattle.compare_places.{specs.declared.SoFar.SoFar, specs.SoFar.{none_places, part_counted, part_listed}, proofs.Laws.countable}
 use Rattle.compare_text.specs.Lines.{report_text, report_room, EntriesThere}

@@ -6,7 +6,8 @@ use mathlib.Core.{Path.{◌≡◌, refl, sym, ◌∙◌, ap}, Logic.{◌⊎◌, 
 use native.Mathlib.{Nat.{zero-add, add-zero}, Omega.arith}
 use borrow.Author.Tests.{leb-true, leb-false, le-leb, lt-leb}
 use lib.{ListN.{length, take, drop, length-take, length-drop, length-append}, Seq.{take_all, take-length, take-nil, take-append-le, take-append-add, length-take-le, sets-eq}}
-use Rattle.rules.{specs.Tests.{if◌then◌else◌, ◌≤?◌}, specs.Bytes.{zeros, splice}, specs.Log.record_at, proofs.page.Compared.{as_many, request_T06}, proofs.page.Places.as_long}
+use Rattle.std.specs.Prelude.{if◌then◌else◌}
+use Rattle.rules.{specs.Tests.{◌≤?◌}, specs.Bytes.{zeros, splice}, specs.Log.record_at, proofs.page.Compared.{as_many, request_T06}, proofs.page.Places.as_long}
 use Rattle.rules.specs.Compare.{compared, beyond, places_in, Difference, places, leading, differences, left, comparison, entries, list_room, list_after, comparison_text, compare_text}
 use Rattle.rules.specs.declared.{Comparison.Comparison, Comparison.TheVariants.{Compared, Full}}
 use Rattle.compare_places.{specs.declared.SoFar.SoFar, specs.SoFar.{none_places, part_counted, part_listed}, proofs.Joined.{whole_counted, whole_listed, last_counted, last_listed}}

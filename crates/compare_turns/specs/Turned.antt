@@ -3,7 +3,8 @@
 use Rattle.std.specs.Prelude.{ℕ, min, ◌+◌, ◌*◌, ◌-◌, ◌≤◌}
 use mathlib.Core.{Path.◌≡◌, Logic.◌⊎◌, List.{List, [], ◌∷◌, ◌++◌}}
 use Rattle.std.specs.Prelude.{length, take}
-use Rattle.rules.specs.{Tests.{if◌then◌else◌, ◌≤?◌}, Bytes.zeros}
+use Rattle.std.specs.Prelude.{if◌then◌else◌}
+use Rattle.rules.specs.{Tests.{◌≤?◌}, Bytes.zeros}
 use Rattle.rules.specs.Compare.{places, leading, differences, left, entries, list_room, list_after, compare_text}
 use Rattle.rules.specs.declared.{Comparison.Comparison, Comparison.TheVariants.{Compared, Full}}
 use Rattle.program_logs.specs.Turns.{part_size}

@@ -4,7 +4,8 @@
 use Rattle.std.specs.Prelude.{ℕ}
 use mathlib.Core.{List.{List, ◌++◌}, Bool.{Bool, ◌&&◌}}
 use Rattle.std.specs.Prelude.{length, take, drop}
-use Rattle.rules.specs.Tests.{if◌then◌else◌, ◌≤?◌, ◌=?◌}
+use Rattle.std.specs.Prelude.{if◌then◌else◌}
+use Rattle.rules.specs.Tests.{◌≤?◌, ◌=?◌}
 use Rattle.rules.specs.Bytes.{le, number_at, zeros, zeros?}
 use Rattle.rules.specs.With.{◌with_transfer◌, ◌with_phase◌}
 use Rattle.rules.specs.Record.{phase_number, fresh}

@@ -4,7 +4,8 @@ use mathlib.Core.{Path.{◌≡◌, refl, sym, ◌∙◌}, Bool.{Bool, true, fals
 use Prim.Native.Nat.{ℕ, ◌+◌, ◌-◌, ◌%◌, ◌<◌}
 use native.Mathlib.Omega.{arith}
 use borrow.Author.Tests.{lt-ltb, le-ltb, ltb-true, ltb-false, leb-true, leb-false}
-use Rattle.rules.{specs.Tests.{if◌then◌else◌, ◌<?◌}, specs.Health.{size, negative, above}}
+use Rattle.std.specs.Prelude.{if◌then◌else◌}
+use Rattle.rules.{specs.Tests.{◌<?◌}, specs.Health.{size, negative, above}}
 use Rattle.health_trips.specs.Heights.{height}
 
 -- two comparisons that hold together come out the same

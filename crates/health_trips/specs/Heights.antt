@@ -1,7 +1,7 @@
 -- Temperature words on one scale, so that two of them take one comparison.
 -- Assumes nothing.
 use Rattle.std.specs.Prelude.{ℕ, ◌+◌, ◌-◌}
-use Rattle.rules.specs.Tests.{if◌then◌else◌}
+use Rattle.std.specs.Prelude.{if◌then◌else◌}
 use Rattle.rules.specs.Health.{negative}
 
 -- a word's height above the lowest temperature; 8000h, the sign on and the size 0, stands where 0 does

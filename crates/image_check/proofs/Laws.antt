@@ -5,7 +5,8 @@ use Prim.Native.Nat.{ℕ, zero, suc, ◌+◌, ◌-◌, ◌*◌, ◌/◌, ◌≤�
 use native.Mathlib.{Nat.{add-sub_cancel_left}, Omega.arith}
 use lib.{ListN.{length, take, drop, length-drop}, Seq.{drop-drop, length-take-le}}
 use Rattle.rules.{specs.Image.{good_record, good_size, version_of}, specs.Fault.{Fault, none, ◌of_record◌, record_fault, ◌or_else◌, records_fault, first_fault, judged, image_of, image_record}}
-use Rattle.rules.{specs.Tests.{◌=?◌, if◌then◌else◌}, specs.declared.Reason.Reason, specs.declared.Reason.TheVariants.Size, specs.declared.Image.TheVariants.{Good, Bad}}
+use Rattle.std.specs.Prelude.{if◌then◌else◌}
+use Rattle.rules.{specs.Tests.{◌=?◌}, specs.declared.Reason.Reason, specs.declared.Reason.TheVariants.Size, specs.declared.Image.TheVariants.{Good, Bad}}
 use Rattle.rules.proofs.page.Faults.{good_clean, bad_unclean, zero_unclean}
 use Rattle.rules.{specs.Bytes.AreBytes, proofs.page.Le.{drop_bytes, take_bytes}, proofs.page.Choice.and_true}
 use Rattle.image_record.{specs.Front.{front_of, good_behind}, proofs.Fronts.front_tests}

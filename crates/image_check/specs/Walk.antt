@@ -1,7 +1,7 @@
 -- The walk over an image's records: where it stops.
 -- Assumes nothing.
 use Rattle.std.specs.Prelude.{ℕ, zero, suc, ◌+◌, List, take, drop}
-use Rattle.rules.specs.Tests.{if◌then◌else◌}
+use Rattle.std.specs.Prelude.{if◌then◌else◌}
 use Rattle.rules.specs.Image.{image_record_size, good_record}
 
 -- the number of the first record that is not good, of so many from number i on; where all are good, the number after theirs

@@ -5,7 +5,8 @@ use Prim.Native.Nat.{ℕ, ◌≤◌, ◌<◌, ◌*◌, ◌/◌}
 use native.Mathlib.Omega.{arith}
 use lib.ListN.{length}
 use borrow.Author.Tests.{lt-ltb, le-ltb, ltb-false}
-use Rattle.rules.{specs.Tests.{if◌then◌else◌, ◌<?◌, ◌=?◌}, specs.Image.most_records, specs.Fault.image_of, specs.Made.{parts_of, making_of, reading_if, reading_of}}
+use Rattle.std.specs.Prelude.{if◌then◌else◌}
+use Rattle.rules.{specs.Tests.{◌<?◌, ◌=?◌}, specs.Image.most_records, specs.Fault.image_of, specs.Made.{parts_of, making_of, reading_if, reading_of}}
 use Rattle.rules.{specs.declared.Image.Image, specs.declared.Image.TheVariants.{Good, Bad}, specs.declared.Reason.Reason, specs.declared.Making.Making, specs.declared.ReadingBack.ReadingBack}
 use Rattle.rules.specs.declared.Making.TheVariants.{Made, VersionZero, PayloadOver128Records, OutputTooShort}
 use Rattle.rules.specs.declared.ReadingBack.TheVariants.{Read, NotGoodImage, OutputTooShort as ReadTooShort}

@@ -4,7 +4,8 @@ use mathlib.Core.{Path.{◌≡◌, refl, ◌∙◌, ap}, Bool.{Bool, true, false
 use Rattle.std.proofs.Common.{ℕ, zero, suc, ◌+◌, ◌*◌, ◌%◌, ◌^◌}
 use native.Mathlib.{Nat.mod-add-mod, Numerals.add-one, Omega.arith}
 use lib.{ListN.{take, drop}, Seq.drop-drop}
-use Rattle.rules.{specs.Bytes.{of_le, number_at}, specs.Image.{sum_of_words, good_record}, specs.Tests.{◌=?◌, if◌then◌else◌}}
+use Rattle.std.specs.Prelude.{if◌then◌else◌}
+use Rattle.rules.{specs.Bytes.{of_le, number_at}, specs.Image.{sum_of_words, good_record}, specs.Tests.{◌=?◌}}
 use Rattle.rules.{specs.Fault.{none, ◌of_record◌, sum_test, record_fault}, specs.declared.Reason.TheVariants.{Number, Count, Version, Sum}}
 
 -- the sum of one word more is the sum so far and that word

@@ -5,7 +5,8 @@ use Prim.Native.Nat.{ℕ, ◌≤◌, ◌<◌, ◌+◌, ◌-◌, ◌*◌}
 use native.Mathlib.{Numerals.add-one, Omega.arith}
 use lib.{Dec.{ltb, leb, eqb}, ListN.{length, get_or, drop, drop_of_length-le}, Seq.drop-cons}
 use borrow.Author.Tests.{leb-true, leb-false, ltb-true, ltb-false, eqb-true, eqb-false, le-leb, lt-leb}
-use Rattle.rules.{specs.Tests.{if◌then◌else◌, ◌≤?◌, ◌=?◌}, proofs.page.Choice.and_3}
+use Rattle.std.specs.Prelude.{if◌then◌else◌}
+use Rattle.rules.{specs.Tests.{◌≤?◌, ◌=?◌}, proofs.page.Choice.and_3}
 use Rattle.images.specs.Version.{digit, fits, none, number_from, number_in}
 
 module _ (n byte : ℕ) where

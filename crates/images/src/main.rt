@@ -5,9 +5,9 @@
 ghost use Rattle.std.specs.Prelude.{◌≤◌, ◌+◌, ◌≡◌, length};
 ghost use Rattle.images.specs.Version.{number_in, fits};
 
-use libc::{STDERR_FILENO, STDOUT_FILENO};
-use program_files::Filled;
+use program_files::{Filled, System};
 use rules::{Making, ReadingBack};
+use std::process::ExitCode;
 
 // The buffer for an argument: the longest name of a file, and its end.
 const NAME: usize = 4096;
@@ -66,124 +66,153 @@ fn number_in(word: &[u8]) -> Given
     Given { good: true, number }
 }
 
-fn say(text: &[u8]) {
-    io::write_all(STDERR_FILENO, text);
-}
-
-fn show(output: &[u8], end: usize)
+// Writes the front of a buffer out, and notes where nobody reads it any more.
+fn show<R: System>(rt: &R, output: &[u8], end: usize, closed: &mut bool)
     requires { end ≤ length output.now }
 {
-    let written = io::write_all(STDOUT_FILENO, &output[0..end]);
-    if !written {
-        os::fail(b"standard output");
-    }
+    let shown = program_files::show(rt, output, end);
+    *closed = shown.closed;
 }
 
 // The file that an argument names, as far as the buffer holds it.
-fn file(argument: usize, name: &mut [u8], input: &mut [u8]) -> Filled
+fn file<R: System>(rt: &R, argument: usize, name: &mut [u8], input: &mut [u8]) -> Filled
     ensures { result.have ≤ length input.old }
 {
-    let opened = program_files::open_log(argument, name);
-    if opened.fd < 0 {
+    let mut opened = program_files::open_log(rt, argument, name);
+    if !program_files::is_open(&opened.log) {
         return Filled {
             have: 0,
             failed: true,
         };
     }
-    let filled = program_files::fill(opened.fd, input);
-    program_files::close_log(opened.fd);
+    let filled = program_files::fill(rt, &mut opened.log, input);
     if filled.failed {
-        program_files::fail_log(name, opened.size);
+        program_files::fail_log(rt, &opened.log, name, opened.size);
     }
     filled
 }
 
 // Shows the image of a payload, or says why there is none.
-fn make(version: u64, payload: &[u8], output: &mut [u8]) {
+fn make<R: System>(rt: &R, version: u64, payload: &[u8], output: &mut [u8], closed: &mut bool) {
     let answer = image_make::make(version, payload, output);
     match answer {
-        Making::Made { length } => show(output, length),
-        Making::VersionZero => say(b"version 0\n"),
-        Making::PayloadOver128Records => say(b"payload over 128 records\n"),
-        Making::OutputTooShort => say(b"output too short\n"),
+        Making::Made { length } => show(rt, output, length, closed),
+        Making::VersionZero => rt.say(b"version 0\n"),
+        Making::PayloadOver128Records => rt.say(b"payload over 128 records\n"),
+        Making::OutputTooShort => rt.say(b"output too short\n"),
     }
 }
 
 // Shows the payload that an image carries, or says why there is none.
-fn read(image: &[u8], output: &mut [u8]) {
+fn read<R: System>(rt: &R, image: &[u8], output: &mut [u8], closed: &mut bool) {
     let answer = image_make::read_back(image, output);
     match answer {
-        ReadingBack::Read { length } => show(output, length),
-        ReadingBack::NotGoodImage => say(b"not a good image\n"),
-        ReadingBack::OutputTooShort => say(b"output too short\n"),
+        ReadingBack::Read { length } => show(rt, output, length, closed),
+        ReadingBack::NotGoodImage => rt.say(b"not a good image\n"),
+        ReadingBack::OutputTooShort => rt.say(b"output too short\n"),
     }
 }
 
 // `make VERSION PAYLOAD`: the version, then the payload.
-fn make_job(first: usize, name: &mut [u8], input: &mut [u8], output: &mut [u8])
+fn make_job<R: System>(
+    rt: &R,
+    first: usize,
+    name: &mut [u8],
+    input: &mut [u8],
+    output: &mut [u8],
+    closed: &mut bool,
+)
     requires { first + 2 ≤ 18446744073709551615 }
 {
-    let size = os::arg(first + 1, name);
+    let size = program_files::arg(rt, first + 1, name);
     let given = number_in(&name[0..size]);
     if !given.good {
-        say(b"VERSION is no number from 0 to 18446744073709551615\n");
+        rt.say(b"VERSION is no number from 0 to 18446744073709551615\n");
         return;
     }
-    let filled = file(first + 2, name, input);
+    let filled = file(rt, first + 2, name, input);
     if filled.failed {
         return;
     }
     let have = filled.have;
-    make(given.number, &input[0..have], output);
+    make(rt, given.number, &input[0..have], output, closed);
 }
 
 // `read IMAGE`.
-fn read_job(first: usize, name: &mut [u8], input: &mut [u8], output: &mut [u8])
+fn read_job<R: System>(
+    rt: &R,
+    first: usize,
+    name: &mut [u8],
+    input: &mut [u8],
+    output: &mut [u8],
+    closed: &mut bool,
+)
     requires { first + 1 ≤ 18446744073709551615 }
 {
-    let filled = file(first + 1, name, input);
+    let filled = file(rt, first + 1, name, input);
     if filled.failed {
         return;
     }
     let have = filled.have;
-    read(&input[0..have], output);
+    read(rt, &input[0..have], output, closed);
 }
 
 // The job that an argument begins, of those left, and how many arguments it has.
-fn job(first: usize, left: usize, name: &mut [u8], input: &mut [u8], output: &mut [u8]) -> usize
+fn job<R: System>(
+    rt: &R,
+    first: usize,
+    left: usize,
+    name: &mut [u8],
+    input: &mut [u8],
+    output: &mut [u8],
+    closed: &mut bool,
+) -> usize
     requires { (1 ≤ left) × (first + left ≤ 18446744073709551615) }
     ensures { (1 ≤ result) × (result ≤ left) }
 {
-    let size = os::arg(first, name);
+    let size = program_files::arg(rt, first, name);
     let makes = bytes_base::same(&name[0..size], b"make");
     let reads = bytes_base::same(&name[0..size], b"read");
     if makes {
         if 3 <= left {
-            make_job(first, name, input, output);
+            make_job(rt, first, name, input, output, closed);
             return 3;
         }
     }
     if reads {
         if 2 <= left {
-            read_job(first, name, input, output);
+            read_job(rt, first, name, input, output, closed);
             return 2;
         }
     }
-    say(b"wants make VERSION PAYLOAD or read IMAGE\n");
+    rt.say(b"wants make VERSION PAYLOAD or read IMAGE\n");
     left
 }
 
-fn main() {
+fn main(rt: HostRuntime) -> ExitCode {
     let mut name = [0u8; NAME];
     let mut input = [0u8; INPUT];
     let mut output = [0u8; OUTPUT];
-    let count = os::arg_count();
+    let mut closed = false;
+    let count = program_files::arg_count(&rt);
     if count < 1 {
-        return;
+        return program_files::status(closed);
     }
     let mut left = count - 1;
     while left > 0 {
-        let used = job(count - left, left, &mut name, &mut input, &mut output);
+        let used = job(
+            &rt,
+            count - left,
+            left,
+            &mut name,
+            &mut input,
+            &mut output,
+            &mut closed,
+        );
+        if closed {
+            return program_files::status(closed);
+        }
         left -= used;
     }
+    program_files::status(closed)
 }

@@ -2,7 +2,7 @@
 #![tactic(auto)]
 
 ghost use Rattle.std.specs.Prelude.{◌≡◌, length};
-ghost use Rattle.rules.specs.Tests.{if◌then◌else◌};
+ghost use Rattle.std.specs.Prelude.{if◌then◌else◌};
 ghost use Rattle.rules.specs.Log.{record_size, named_in, host_in, good_call};
 ghost use Rattle.rules.specs.declared.Entry.TheVariants.{Bad};
 ghost use Rattle.log_call.specs.Call.{call_entry};

@@ -5,7 +5,8 @@ use Prim.Native.Nat.{ℕ, ◌≤◌, ◌<◌, ◌+◌, ◌-◌, ◌*◌}
 use native.Mathlib.{Nat.add-sub_cancel_left, Omega.arith}
 use borrow.Author.Tests.{lt-ltb, le-ltb, ltb-true}
 use lib.ListN.{take, drop}
-use Rattle.rules.{specs.Tests.{if◌then◌else◌, ◌<?◌, ◌=?◌}, specs.Log.{record_size, entry_of, records_in, record_at, short_tail}, specs.declared.Entry.Entry}
+use Rattle.std.specs.Prelude.{if◌then◌else◌}
+use Rattle.rules.{specs.Tests.{◌<?◌, ◌=?◌}, specs.Log.{record_size, entry_of, records_in, record_at, short_tail}, specs.declared.Entry.Entry}
 use Rattle.log_reader.specs.{declared.Found.Found, declared.Found.TheVariants.{Record, Short, End}, Reader.{stands, stood_at}}
 
 abbrev record? : Found → ℕ

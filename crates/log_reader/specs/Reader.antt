@@ -3,7 +3,8 @@
 use Rattle.std.specs.Prelude.{ℕ, ◌+◌}
 use mathlib.Core.{Bool.◌&&◌, List.List}
 use Rattle.std.specs.Borrow.{Bor}
-use Rattle.rules.specs.Tests.{if◌then◌else◌, ◌<?◌, ◌=?◌}
+use Rattle.std.specs.Prelude.{if◌then◌else◌}
+use Rattle.rules.specs.Tests.{◌<?◌, ◌=?◌}
 use Rattle.rules.specs.Log.{entry_of, records_in, record_at, short_tail}
 use Rattle.log_reader.specs.declared.{Found.Found, Found.TheVariants.{Record, Short, End}, Stood.Stood, LogReader.LogReader, Step.Step}
 

@@ -3,7 +3,7 @@
 use Rattle.std.specs.Prelude.{ℕ, zero, suc, ◌+◌, ◌*◌}
 use mathlib.Core.{Bool.Bool, List.{List, [], ◌∷◌, ◌++◌}}
 use Rattle.std.specs.Prelude.{length, drop}
-use Rattle.rules.specs.Tests.{if◌then◌else◌}
+use Rattle.std.specs.Prelude.{if◌then◌else◌}
 use Rattle.rules.specs.Log.{record_size, entry_of, records_in, record_at, short_tail}
 use Rattle.log_reader.specs.declared.{Found.Found, Found.TheVariants.{Record, Short}, LogReader.LogReader}
 use Rattle.log_reader.specs.Reader.{step_of}

@@ -4,7 +4,8 @@ use mathlib.Core.{Path.{◌≡◌, refl, sym, ◌∙◌, ap}, Bool.{Bool, true, 
 use Prim.Native.Nat.{ℕ}
 use lib.ListN.{length}
 use borrow.Author.Tests.{eq-eqb, ne_eqb}
-use Rattle.rules.{specs.Tests.{if◌then◌else◌, ◌=?◌}, specs.Log.{entry_of, kind_in, named_in, good_call, bare, good_power, good_reading}, specs.declared.Entry.Entry}
+use Rattle.std.specs.Prelude.{if◌then◌else◌}
+use Rattle.rules.{specs.Tests.{◌=?◌}, specs.Log.{entry_of, kind_in, named_in, good_call, bare, good_power, good_reading}, specs.declared.Entry.Entry}
 use Rattle.rules.specs.declared.Entry.TheVariants.{Tick, Power, Bad}
 use Rattle.log_call.specs.Call.{call_entry}
 use Rattle.log_record.specs.Reading.{reading_entry}

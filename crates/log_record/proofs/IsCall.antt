@@ -5,7 +5,8 @@ use Prim.Native.Nat.{ℕ, ◌+◌, ◌-◌, ◌≤◌}
 use native.Mathlib.{Nat.add-sub_cancel_left, Omega.arith}
 use lib.ListN.{length, take, drop}
 use borrow.Author.Tests.{eqb-true, leb-true}
-use Rattle.rules.{specs.Tests.{if◌then◌else◌, ◌=?◌, ◌≤?◌}, specs.Log.{entry_of, kind_in, named_in, host_in, revision_in, function_in, length_in, request_in, good_call, padded, bare, good_power, good_reading}}
+use Rattle.std.specs.Prelude.{if◌then◌else◌}
+use Rattle.rules.{specs.Tests.{◌=?◌, ◌≤?◌}, specs.Log.{entry_of, kind_in, named_in, host_in, revision_in, function_in, length_in, request_in, good_call, padded, bare, good_power, good_reading}}
 use Rattle.rules.{specs.declared.Entry.Entry, specs.declared.Entry.TheVariants.{Call, Tick, Power, Health, Bad}, proofs.page.Choice.and_true}
 use Rattle.log_call.specs.Call.{call_entry}
 use Rattle.log_record.specs.Reading.{reading_entry}

@@ -2,7 +2,7 @@
 #![tactic(auto)]
 
 ghost use Rattle.std.specs.Prelude.{◌≡◌, length};
-ghost use Rattle.rules.specs.Tests.{if◌then◌else◌};
+ghost use Rattle.std.specs.Prelude.{if◌then◌else◌};
 ghost use Rattle.rules.specs.Log.{record_size, entry_of, named_in, bare, names_module, good_power, good_reading};
 ghost use Rattle.rules.specs.declared.Entry.TheVariants.{Tick, Power, Bad};
 ghost use Rattle.log_record.specs.Reading.{reading_entry};

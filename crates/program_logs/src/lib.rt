@@ -2,7 +2,7 @@
 #![tactic(auto)]
 
 ghost use Rattle.std.specs.Prelude.{◌+◌, ◌/◌, ◌≤◌, ◌<◌, ◌≡◌, length};
-ghost use Rattle.rules.specs.Tests.{if◌then◌else◌};
+ghost use Rattle.std.specs.Prelude.{if◌then◌else◌};
 ghost use Rattle.program_logs.specs.declared.Turn.TheVariants.{Part, Nothing};
 ghost use Rattle.program_logs.specs.Turns.{Standing, Next, Left, after_part, part_size};
 

@@ -2,7 +2,8 @@
 -- Assumes nothing.
 use mathlib.Core.{Path.{◌≡◌, sym, ◌∙◌, ap}, Bool.{Bool, true, false}, List.{List, ◌++◌}}
 use Prim.Native.Nat.{ℕ}
-use Rattle.rules.{specs.Tests.{◌=?◌, if◌then◌else◌}, specs.Text.field, specs.Replay.{printed_status, printed_ext, call_line}, specs.declared.Reply.Reply}
+use Rattle.std.specs.Prelude.{if◌then◌else◌}
+use Rattle.rules.{specs.Tests.{◌=?◌}, specs.Text.field, specs.Replay.{printed_status, printed_ext, call_line}, specs.declared.Reply.Reply}
 
 module _ (number index : ℕ) (reply : Reply) where
   abbrev mask_line : List ℕ

@@ -5,7 +5,8 @@ use Prim.Native.Nat.{ℕ, ◌≤◌}
 use lib.ListN.{length, take, drop}
 use borrow.Author.Tests.{leb-true, le-ltb}
 use Rattle.rules.{specs.Bytes.zeros, specs.Numbers.answer_room, specs.Record.Whole, specs.Cabinet.{Event, call, tick, power, reading, step}}
-use Rattle.rules.{specs.Tests.{if◌then◌else◌, ◌≤?◌, ◌=?◌}, specs.Bytes.zeros?, specs.Health.new_reading, proofs.page.Choice.and_true}
+use Rattle.std.specs.Prelude.{if◌then◌else◌}
+use Rattle.rules.{specs.Tests.{◌≤?◌, ◌=?◌}, specs.Bytes.zeros?, specs.Health.new_reading, proofs.page.Choice.and_true}
 use Rattle.rules.specs.Log.{record_size, kind_in, named_in, host_in, revision_in, function_in, length_in, request_in, padded, good_call, bare, names_module, good_power, spare_in, media_in, controller_in, good_reading, entry_of}
 use Rattle.rules.{specs.Replay.{played, record_played}, specs.Demand1.{buffer_too_short, module_over1, spare_over100, MayGive}, specs.declared.Refusal.TheVariants.{R, Status}, specs.declared.Verdict.Verdict}
 use Rattle.rules.{specs.declared.Verdict.TheVariants.{Accepted, Refused}, specs.declared.Entry.Entry, specs.declared.Entry.TheVariants.{Call, Tick, Power, Health, Bad}}

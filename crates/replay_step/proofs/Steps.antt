@@ -5,7 +5,7 @@ use Prim.Native.Nat.{ℕ, ◌+◌, ◌-◌, ◌≤◌}
 use native.Mathlib.Omega.{arith}
 use lib.ListN.{length, take, drop}
 use Rattle.rules.{specs.Bytes.zeros, specs.Numbers.answer_room, specs.Record.{Whole, whole_of}, specs.Cabinet.{Result, call_result}, specs.Log.{entry_of, request_in}}
-use Rattle.rules.{specs.Replay.{replay_call, played}, specs.declared.Entry.Entry, specs.declared.Entry.TheVariants.Call, specs.declared.Cabinet.Cabinet}
+use Rattle.rules.{specs.Replay.{played}, specs.declared.Entry.Entry, specs.declared.Entry.TheVariants.Call, specs.declared.Cabinet.Cabinet}
 use Rattle.log_record.proofs.IsCall.{is_call, request_part}
 use Rattle.cabinet.{specs.Promise.Promised, specs.declared.Outcome.Outcome}
 use Rattle.replay_step.specs.Stepped.{entry_reply, Stepped}

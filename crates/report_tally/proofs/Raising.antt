@@ -3,7 +3,8 @@
 use mathlib.Core.{Path.{◌≡◌, refl, sym, ◌∙◌, ap, subst}, Bool.{Bool, true, false, not, ◌||◌}, List.{List, []}}
 use Prim.Native.Nat.{ℕ, ◌+◌, ◌-◌}
 use lib.ListN.{get_or}
-use Rattle.rules.{specs.Tests.{if◌then◌else◌, ◌≤?◌, ◌=?◌}, specs.Report.{Counted, answered, masked, raised, raised_cell, raised_grid, raised_counts, raised_short, largest_count}}
+use Rattle.std.specs.Prelude.{if◌then◌else◌}
+use Rattle.rules.{specs.Tests.{◌≤?◌, ◌=?◌}, specs.Report.{Counted, answered, masked, raised, raised_cell, raised_grid, raised_counts, raised_short, largest_count}}
 use Rattle.rules.specs.{Replay.printed_status, declared.{Counts.Counts, Reply.Reply, Entry.Entry, Entry.TheVariants.Call}}
 use Rattle.report_tally.specs.{declared.Counting.Counting, Tally.{Tally, tally_of, tallied, tallied_if, count_of, counted_by, HasCell, counted_or_full, with_tail_counted, Tallies}}
 

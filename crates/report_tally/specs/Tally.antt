@@ -2,7 +2,8 @@
 -- Assumes nothing.
 use mathlib.Core.{Path.◌≡◌, Bool.{Bool, true, false, not, ◌||◌}, List.{List, []}}
 use Rattle.std.specs.Prelude.{ℕ, ◌-◌, ◌≤◌, get_or}
-use Rattle.rules.specs.Tests.{if◌then◌else◌, ◌≤?◌, ◌=?◌}
+use Rattle.std.specs.Prelude.{if◌then◌else◌}
+use Rattle.rules.specs.Tests.{◌≤?◌, ◌=?◌}
 use Rattle.rules.specs.Replay.{printed_status}
 use Rattle.rules.specs.Report.{Report, Counted, answered, masked, ticked, powered, measured, bad, raised, raised_short, with_tail, largest_count}
 use Rattle.rules.specs.declared.{Counts.Counts, Reply.Reply, Entry.Entry, Entry.TheVariants.{Call, Tick, Power, Health, Bad}}

@@ -2,7 +2,8 @@
 #![tactic(auto)]
 
 ghost use Rattle.std.specs.Prelude.{◌≡◌, false, [], ◌+◌, ◌≤◌, ◌<◌, set, get_or};
-ghost use Rattle.rules.specs.Tests.{if◌then◌else◌, ◌≤?◌};
+ghost use Rattle.std.specs.Prelude.{if◌then◌else◌};
+ghost use Rattle.rules.specs.Tests.{◌≤?◌};
 ghost use Rattle.rules.specs.Report.{answered, masked, ticked, powered, measured, bad, largest_count, raised_at, raised_counts};
 ghost use Rattle.report_tally.specs.Tally.{tally_of, tallied, counted_by, HasCell, counted_or_full, with_tail_counted, Tallies};
 

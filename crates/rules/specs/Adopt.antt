@@ -3,7 +3,8 @@
 -- Assumes nothing.
 use Rattle.std.specs.Prelude.{ℕ}
 use mathlib.Core.{Path.◌≡◌, Logic.◌↔◌, Bool.{Bool, true, false, ◌&&◌, ◌||◌}}
-use Rattle.rules.specs.Tests.{if◌then◌else◌, ◌=?◌}
+use Rattle.std.specs.Prelude.{if◌then◌else◌}
+use Rattle.rules.specs.Tests.{◌=?◌}
 use Rattle.rules.specs.With.{◌with_phase◌, ◌with_received◌, ◌with_transfer◌}
 use Rattle.rules.specs.Record.{◌is◌, current, possible_current, fresh, possible, possible_parts, possible_numbers, possible_security, possible_thresholds, possible_cabinet, renewed}
 use Rattle.rules.specs.declared.{Phase.TheVariants.{Idle, Failed}, Device.Device, Cabinet.Cabinet, Reading.Reading}

@@ -2,7 +2,8 @@
 -- Assumes nothing.
 use Rattle.std.specs.Prelude.{ℕ, ◌≤◌}
 use mathlib.Core.{Path.◌≡◌, Bool.{true, ◌||◌}}
-use Rattle.rules.specs.Tests.{if◌then◌else◌, ◌=?◌}
+use Rattle.std.specs.Prelude.{if◌then◌else◌}
+use Rattle.rules.specs.Tests.{◌=?◌}
 use Rattle.rules.specs.Numbers.{attempt_limit}
 use Rattle.rules.specs.Record.{Whole, device_of}
 use Rattle.rules.specs.Refusals.{verdict}

@@ -4,7 +4,8 @@
 use Rattle.std.specs.Prelude.{ℕ, zero, suc, ◌+◌, ◌*◌, ◌/◌, ◌%◌, ◌^◌, ◌<◌}
 use mathlib.Core.{List.{List, [], ◌∷◌, ◌++◌}, Bool.{Bool, true, false, ◌&&◌}}
 use Rattle.std.specs.Prelude.{length, take, drop, replicate, get_or}
-use Rattle.rules.specs.Tests.{◌=?◌, if◌then◌else◌}
+use Rattle.std.specs.Prelude.{if◌then◌else◌}
+use Rattle.rules.specs.Tests.{◌=?◌}
 
 -- every number of the list is a byte's; past the list's end there is none, which reads as 0
 abbrev pub AreBytes : List ℕ → Type 0

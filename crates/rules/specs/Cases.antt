@@ -4,7 +4,8 @@
 use Rattle.std.specs.Prelude.{ℕ, zero, suc, ◌+◌}
 use mathlib.Core.{Bool.{Bool, true, false, not, ◌&&◌}, List.{List, [], ◌∷◌, ◌++◌}}
 use Rattle.std.specs.Prelude.{length, drop, replicate}
-use Rattle.rules.specs.Tests.{if◌then◌else◌, ◌=?◌}
+use Rattle.std.specs.Prelude.{if◌then◌else◌}
+use Rattle.rules.specs.Tests.{◌=?◌}
 use Rattle.rules.specs.Bytes.{le, zeros, same?}
 use Rattle.rules.specs.Numbers.{area_size}
 use Rattle.rules.specs.With.{◌with_transfer◌, ◌with_phase◌, ◌with_current◌, ◌with_received◌}

@@ -4,7 +4,8 @@ use Rattle.std.specs.Prelude.{ℕ, zero, suc, ◌+◌, ◌-◌, ◌*◌, ◌/◌
 use Prim.Native.String.{String}
 use mathlib.Core.{Path.◌≡◌, Bool.{Bool, true, false, not, ◌&&◌, ◌||◌}, List.{List, [], ◌∷◌, ◌++◌}}
 use Rattle.std.specs.Prelude.{length, take, drop}
-use Rattle.rules.specs.Tests.{if◌then◌else◌, ◌≤?◌, ◌<?◌, ◌=?◌}
+use Rattle.std.specs.Prelude.{if◌then◌else◌}
+use Rattle.rules.specs.Tests.{◌≤?◌, ◌<?◌, ◌=?◌}
 use Rattle.rules.specs.Bytes.{same?, splice}
 use Rattle.rules.specs.Text.{ascii, decimal, field}
 use Rattle.rules.specs.Log.{record_size, record_at, kind_bytes, host_bytes, revision_bytes, function_bytes, length_bytes, request_bytes}

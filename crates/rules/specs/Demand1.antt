@@ -6,7 +6,8 @@
 -- Assumes nothing.
 use mathlib.Core.{Path.◌≡◌, Bool.{Bool, true, false, ◌||◌}, Logic.◌⊎◌, List.{List, [], ◌∷◌, ◌++◌}}
 use Rattle.std.specs.Prelude.{ℕ, ◌-◌, length, take}
-use Rattle.rules.specs.Tests.{if◌then◌else◌, ◌<?◌, ◌=?◌}
+use Rattle.std.specs.Prelude.{if◌then◌else◌}
+use Rattle.rules.specs.Tests.{◌<?◌, ◌=?◌}
 use Rattle.rules.specs.Bytes.{zeros}
 use Rattle.rules.specs.Numbers.{area_size, answer_room}
 use Rattle.rules.specs.Record.{fresh_cabinet, possible_cabinet, Whole, device_of, with_device_at}

@@ -4,7 +4,8 @@
 use Rattle.std.specs.Prelude.{ℕ, zero, suc, ◌+◌, ◌*◌, ◌<◌}
 use mathlib.Core.{Path.◌≡◌, Logic.◌↔◌, Bool.{Bool, true, false, not}, List.List}
 use Rattle.std.specs.Prelude.{take, drop}
-use Rattle.rules.specs.Tests.{if◌then◌else◌, ◌=?◌}
+use Rattle.std.specs.Prelude.{if◌then◌else◌}
+use Rattle.rules.specs.Tests.{◌=?◌}
 use Rattle.rules.specs.Image.{image_record_size, number_field, count_field, version_field, sum_field, number_in, records_of, record_sum, good_record, good_size, version_of, good_image}
 use Rattle.rules.specs.declared.{Reason.Reason, Reason.TheVariants.{Size, Number, Count, Version, Sum}, Image.Image, Image.TheVariants.{Good, Bad}}
 

@@ -3,7 +3,8 @@
 use Rattle.std.specs.Prelude.{ℕ, ◌+◌, ◌%◌, ◌<◌}
 use mathlib.Core.{Path.◌≡◌, Logic.◌↔◌, Bool.{Bool, true, ◌&&◌}, List.{List, ◌++◌}}
 use Rattle.std.specs.Prelude.{ℤ, pos, neg_ℤ, ◌<ℤ◌}
-use Rattle.rules.specs.Tests.{if◌then◌else◌, ◌≤?◌, ◌<?◌}
+use Rattle.std.specs.Prelude.{if◌then◌else◌}
+use Rattle.rules.specs.Tests.{◌≤?◌, ◌<?◌}
 use Rattle.rules.specs.Bytes.{le, zeros, bit, on}
 use Rattle.rules.specs.declared.{Thresholds.Thresholds, Reading.Reading}
 

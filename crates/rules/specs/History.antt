@@ -3,7 +3,7 @@
 -- Assumes nothing.
 use Rattle.std.specs.Prelude.{ℕ, ◌+◌}
 use mathlib.Core.{Path.◌≡◌, Bool.{Bool, true, false, not, ◌||◌}, List.{List, [], ◌∷◌, ◌++◌}}
-use Rattle.rules.specs.Tests.{if◌then◌else◌}
+use Rattle.std.specs.Prelude.{if◌then◌else◌}
 
 module _ {X : Type 0} where
   -- one list, and then another: `a and_then b and_then c` is read from left to right

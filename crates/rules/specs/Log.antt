@@ -3,7 +3,8 @@
 use Rattle.std.specs.Prelude.{ℕ, ◌+◌, ◌*◌, ◌/◌, ◌%◌}
 use mathlib.Core.{Bool.{Bool, not, ◌&&◌}, List.List}
 use Rattle.std.specs.Prelude.{length, take, drop}
-use Rattle.rules.specs.Tests.{if◌then◌else◌, ◌≤?◌, ◌=?◌}
+use Rattle.std.specs.Prelude.{if◌then◌else◌}
+use Rattle.rules.specs.Tests.{◌≤?◌, ◌=?◌}
 use Rattle.rules.specs.Bytes.{of_le, number_at, zeros?}
 use Rattle.rules.specs.declared.{Entry.Entry, Entry.TheVariants.{Call, Tick, Power, Health, Bad}}
 

@@ -5,7 +5,8 @@
 use Rattle.std.specs.Prelude.{ℕ, zero, suc, ◌+◌, ◌-◌, ◌*◌, ◌/◌, ◌≤◌}
 use mathlib.Core.{Path.◌≡◌, List.{List, [], ◌++◌}}
 use Rattle.std.specs.Prelude.{length, take, drop}
-use Rattle.rules.specs.Tests.{if◌then◌else◌, ◌<?◌, ◌=?◌}
+use Rattle.std.specs.Prelude.{if◌then◌else◌}
+use Rattle.rules.specs.Tests.{◌<?◌, ◌=?◌}
 use Rattle.rules.specs.Bytes.{le, zeros, splice, AreBytes}
 use Rattle.rules.specs.Image.{image_record_size, most_records, Field, number_field, count_field, version_field, payload_field, sum_field}
 use Rattle.rules.specs.{Image.{bytes_in, records_of, record_sum}, Fault.image_of}

@@ -4,7 +4,8 @@
 -- Assumes nothing.
 use Rattle.std.specs.Prelude.{ℕ}
 use mathlib.Core.{Bool.{Bool, false, not, ◌&&◌, ◌||◌}, List.List}
-use Rattle.rules.specs.Tests.{if◌then◌else◌, ◌≤?◌, ◌<?◌, ◌=?◌, ◌implies◌, ◌unless◌}
+use Rattle.std.specs.Prelude.{if◌then◌else◌}
+use Rattle.rules.specs.Tests.{◌≤?◌, ◌<?◌, ◌=?◌, ◌implies◌, ◌unless◌}
 use Rattle.rules.specs.Bytes.{zeros, zeros?}
 use Rattle.rules.specs.Numbers.{area_size, verification, attempt_limit}
 use Rattle.rules.specs.With.{◌with_trips◌, ◌with_contexts◌}

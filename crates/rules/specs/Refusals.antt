@@ -3,7 +3,8 @@
 use Rattle.std.specs.Prelude.{ℕ, ◌+◌, ◌-◌}
 use mathlib.Core.{Bool.{Bool, true, false, not}, List.{List, [], ◌∷◌, ◌++◌}}
 use Rattle.std.specs.Prelude.{length}
-use Rattle.rules.specs.Tests.{if◌then◌else◌, ◌=?◌, ◌<?◌}
+use Rattle.std.specs.Prelude.{if◌then◌else◌}
+use Rattle.rules.specs.Tests.{◌=?◌, ◌<?◌}
 use Rattle.rules.specs.Bytes.{le, zeros, splice}
 use Rattle.rules.specs.Numbers.{area_size, answer_room}
 use Rattle.rules.specs.With.{◌with_attempts◌, ◌with_security◌}

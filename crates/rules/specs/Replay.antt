@@ -5,7 +5,8 @@ use Rattle.std.specs.Prelude.{ℕ, zero, suc, ◌+◌}
 use Prim.Native.String.{String}
 use mathlib.Core.{Bool.Bool, List.{List, [], ◌++◌}}
 use Rattle.std.specs.Prelude.{length}
-use Rattle.rules.specs.Tests.{if◌then◌else◌, ◌=?◌}
+use Rattle.std.specs.Prelude.{if◌then◌else◌}
+use Rattle.rules.specs.Tests.{◌=?◌}
 use Rattle.rules.specs.Bytes.{zeros}
 use Rattle.rules.specs.Text.{ascii, decimal, field}
 use Rattle.rules.specs.Numbers.{area_size, answer_room}

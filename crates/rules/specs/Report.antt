@@ -4,7 +4,8 @@
 use Rattle.std.specs.Prelude.{ℕ, zero, suc, ◌+◌, ◌-◌, ◌≤◌}
 use mathlib.Core.{Path.◌≡◌, Logic.◌↔◌, Bool.{Bool, true, false, ◌&&◌}, List.{List, [], ◌∷◌, ◌++◌}}
 use Rattle.std.specs.Prelude.{get_or, set, replicate}
-use Rattle.rules.specs.Tests.{if◌then◌else◌, ◌≤?◌, ◌=?◌}
+use Rattle.std.specs.Prelude.{if◌then◌else◌}
+use Rattle.rules.specs.Tests.{◌≤?◌, ◌=?◌}
 use Rattle.rules.specs.Text.{ascii, decimal, field}
 use Rattle.rules.specs.Record.{Whole}
 use Rattle.rules.specs.Log.{entry_of, request_in, records_in, record_at, short_tail}

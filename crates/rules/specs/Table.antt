@@ -3,7 +3,8 @@
 use Rattle.std.specs.Prelude.{ℕ, ◌+◌}
 use mathlib.Core.{Bool.{Bool, true, false, not, ◌&&◌}, List.{List, [], ◌∷◌}}
 use Rattle.std.specs.Prelude.{length}
-use Rattle.rules.specs.Tests.{if◌then◌else◌, ◌≤?◌, ◌=?◌}
+use Rattle.std.specs.Prelude.{if◌then◌else◌}
+use Rattle.rules.specs.Tests.{◌≤?◌, ◌=?◌}
 use Rattle.rules.specs.Bytes.{bit}
 use Rattle.rules.specs.Refusals.{Check, ◌gives◌}
 use Rattle.rules.specs.declared.{Refusal.TheVariants.Status, Row.Row, Function.Function}

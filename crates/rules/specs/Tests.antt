@@ -2,11 +2,6 @@
 -- Assumes nothing.
 use Rattle.std.specs.Prelude.{ℕ, Bool, true, false, not, ◌||◌, eqb, leb, ltb}
 
-infixr 5 if◌then◌else◌
-abbrev pub if◌then◌else◌ {ℓ} : {A : Type ℓ} → Bool → A → A → A
-if true then a else b = a
-if false then a else b = b
-
 infix 40 ◌≤?◌ ◌<?◌ ◌=?◌
 abbrev pub ◌≤?◌ : ℕ → ℕ → Bool
 m ≤? n = leb m n

@@ -2,7 +2,8 @@
 -- Assumes nothing.
 use Rattle.std.specs.Prelude.{ℕ, zero, suc, ◌+◌, ◌/◌, ◌%◌, List, [], ◌∷◌, ◌++◌}
 use Prim.Native.Char.{code}
-use Rattle.rules.specs.Tests.{◌<?◌, if◌then◌else◌}
+use Rattle.std.specs.Prelude.{if◌then◌else◌}
+use Rattle.rules.specs.Tests.{◌<?◌}
 use Prim.Native.String.{String, [] as end, ◌∷◌ as ◌then◌}
 
 -- The bytes of a quoted text of ASCII characters. A text is `end`, empty, or `c then text`, a character before the rest; `code c` is its number.

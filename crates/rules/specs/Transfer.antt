@@ -3,7 +3,8 @@
 use Rattle.std.specs.Prelude.{ℕ, ◌+◌, ◌-◌, ◌*◌}
 use mathlib.Core.{Bool.{Bool, not, ◌&&◌, ◌||◌}, List.{List, [], ◌∷◌, ◌++◌}}
 use Rattle.std.specs.Prelude.{length, take, drop}
-use Rattle.rules.specs.Tests.{if◌then◌else◌, ◌<?◌, ◌=?◌}
+use Rattle.std.specs.Prelude.{if◌then◌else◌}
+use Rattle.rules.specs.Tests.{◌<?◌, ◌=?◌}
 use Rattle.rules.specs.Bytes.{le, number_at, zeros, zeros?, splice}
 use Rattle.rules.specs.Numbers.{area_size, longest_piece, verification, tick_microseconds, last_context}
 use Rattle.rules.specs.With.{◌with_phase◌, ◌with_current◌, ◌with_received◌, ◌with_ticks◌, ◌with_running◌, ◌with_staged◌, ◌with_reason◌, ◌with_faulty◌}

@@ -3,7 +3,8 @@
 use Rattle.std.specs.Prelude.{ℕ}
 use mathlib.Core.{Path.◌≡◌, List.{List, [], ◌++◌}}
 use Rattle.std.specs.Prelude.{length}
-use Rattle.rules.specs.Tests.{if◌then◌else◌, ◌=?◌}
+use Rattle.std.specs.Prelude.{if◌then◌else◌}
+use Rattle.rules.specs.Tests.{◌=?◌}
 use Rattle.rules.specs.Bytes.{number_at}
 use Rattle.rules.specs.Refusals.{refused?}
 use Rattle.rules.specs.Transfer.{GetFwInfo, Start, Send, Finish, Query}

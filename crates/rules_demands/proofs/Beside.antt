@@ -3,7 +3,8 @@
 use Prim.Native.Nat.{ℕ, ◌≤◌}
 use mathlib.Core.{Path.{◌≡◌, refl, ◌∙◌, ap}, Logic.{◌⊎◌, inl, inr}, Bool.{Bool, true, ◌&&◌, ◌||◌}, List.List}
 use borrow.Author.Tests.{eq-eqb, ne_eqb}
-use Rattle.rules.{specs.Tests.{if◌then◌else◌, ◌=?◌}, specs.Record.{Whole, device_of, ◌is◌}, specs.Refusals.refused?, specs.Table.{table, row_of}}
+use Rattle.std.specs.Prelude.{if◌then◌else◌}
+use Rattle.rules.{specs.Tests.{◌=?◌}, specs.Record.{Whole, device_of, ◌is◌}, specs.Refusals.refused?, specs.Table.{table, row_of}}
 use Rattle.rules.{specs.Security.{GetSecurityState, SetPassphrase, Disable, Unlock, Freeze}, specs.Module.{call_of, call_in}, specs.Cabinet.{call, tick, power, reading, step}}
 use Rattle.rules.{specs.Transfers.{machine, Answer, Kind, call_kind, if_accepted}, specs.Beside.{NoSend, AreaStays, last_reading, LastKept, FrozenFirst, TakenOver}}
 use Rattle.rules.{specs.declared.Phase.Phase, specs.declared.Phase.TheVariants.Staged, specs.declared.Row.Row, specs.declared.Security.Security, specs.declared.Refusal.Refusal}

@@ -5,7 +5,8 @@ use native.Mathlib.Omega.{arith}
 use mathlib.Core.{Path.{◌≡◌, refl, ◌∙◌, ap}, Logic.{◌⊎◌, inl, inr}, Bool.{Bool, true, false, false≢true}, List.{List, ◌++◌}}
 use lib.ListN.{length, drop}
 use borrow.Author.Tests.{ltb-true}
-use Rattle.rules.{specs.Tests.{if◌then◌else◌, ◌=?◌}, specs.Bytes.{le, zeros}, specs.Record.{Whole, whole_of}, specs.Refusals.{answer_after, one_attempt_more}}
+use Rattle.std.specs.Prelude.{if◌then◌else◌}
+use Rattle.rules.{specs.Tests.{◌=?◌}, specs.Bytes.{le, zeros}, specs.Record.{Whole, whole_of}, specs.Refusals.{answer_after, one_attempt_more}}
 use Rattle.rules.{specs.Table.{table, row_of}, specs.Module.device_keeping, specs.Cabinet.{Event, call, tick, power, reading, call_result}}
 use Rattle.rules.specs.Demand1.{OfCall, OfReading, buffer_too_short, module_over1, spare_over100, MayGive, Demand1}
 use Rattle.rules.{specs.declared.Row.Row, specs.declared.Function.Function, specs.declared.Reading.Reading, specs.declared.Device.Device}

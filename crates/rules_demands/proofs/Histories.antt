@@ -4,7 +4,8 @@ use Prim.Native.Nat.{ℕ, ◌≤◌}
 use mathlib.Core.{Path.{◌≡◌, refl, sym, ◌∙◌, ap, subst}, Logic.{◌⊎◌, inl, inr}, Bool.{Bool, true, false, false≢true, ◌&&◌}, List.{List, [], ◌∷◌, ◌++◌}}
 use borrow.Author.Tests.{eqb-true, eq-eqb}
 use lib.ListN.{take}
-use Rattle.rules.{specs.Tests.{if◌then◌else◌, ◌=?◌}, specs.Numbers.verification, specs.Record.{Whole, ◌is◌, device_of}, specs.Fault.image_of, specs.Cabinet.{Event, tick, step}}
+use Rattle.std.specs.Prelude.{if◌then◌else◌}
+use Rattle.rules.{specs.Tests.{◌=?◌}, specs.Numbers.verification, specs.Record.{Whole, ◌is◌, device_of}, specs.Fault.image_of, specs.Cabinet.{Event, tick, step}}
 use Rattle.rules.{specs.History.{All, keep, only, history_of, Same, ◌and_then◌}, specs.Transfers.{machine, Exchange, History, kind_of, none, AllInOrder, AllByStarter}}
 use Rattle.rules.{specs.Hosts.Honest, specs.Sends.{is_send_of, own_send, own_sends, others, SentBy, FinishedIn, ticks_in, power_cycles}}
 use Rattle.rules.specs.Moves.{moved, ByMoves, as_it_is, one_more, rearranged}

@@ -5,7 +5,8 @@ use native.Mathlib.Omega.{arith}
 use mathlib.Core.{Path.{◌≡◌, refl, sym, ◌∙◌, ap, fun_ext}, Logic.{◌⊎◌, inl, inr}, Bool.{Bool, true, false}, List.{List, [], ◌∷◌, map}}
 use lib.ListN.{length}
 use borrow.Author.Tests.{ne_eqb}
-use Rattle.rules.specs.{Tests.if◌then◌else◌, Bytes.zeros?, Record.{possible, possible_transfer, possible_security, possible_thresholds, possible_reading, possible_parts, possible_trips, possible_cabinet, Whole}}
+use Rattle.std.specs.Prelude.{if◌then◌else◌}
+use Rattle.rules.specs.{Bytes.zeros?, Record.{possible, possible_transfer, possible_security, possible_thresholds, possible_reading, possible_parts, possible_trips, possible_cabinet, Whole}}
 use Rattle.rules.specs.{Refusals.verdict, Table.{row_of, fits?}, Health.{above, trips}, Cabinet.{Event, call, tick, power, reading, call_result, tick_result, power_result, reading_result}, Log.entry_of}
 use Rattle.rules.specs.{History.{keep, only, history_of}, Transfers.{machine, Exchange, History}, Apart.{reaches, start_of, reached_by, starts_of, events_in, RequestT09}, Demand1.Among}
 use Rattle.rules.specs.declared.{Refusal.Refusal, Refusal.TheVariants.R}

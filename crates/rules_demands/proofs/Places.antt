@@ -3,7 +3,8 @@
 use Prim.Native.Nat.{ℕ}
 use mathlib.Core.{Path.{◌≡◌, refl, sym, subst}, Bool.{Bool, true, false}, List.{List, [], ◌∷◌}}
 use borrow.Author.Tests.{eqb-true}
-use Rattle.rules.{specs.Tests.{if◌then◌else◌, ◌=?◌}, specs.Table.{unserved, look_up}, specs.declared.Row.Row}
+use Rattle.std.specs.Prelude.{if◌then◌else◌}
+use Rattle.rules.{specs.Tests.{◌=?◌}, specs.Table.{unserved, look_up}, specs.declared.Row.Row}
 
 abbrev pub AllAt : (ℕ → Row → Type 0) → List (ℕ × Row) → Type 0
 AllAt P [] = Unit {0}

@@ -5,7 +5,8 @@ use mathlib.Core.{Path.{◌≡◌, refl, sym, ◌∙◌, ap}, Bool.{Bool, true, 
 use lib.ListN.{length}
 use native.Mathlib.Omega.{arith}
 use borrow.Author.Tests.{le-ltb, eq-eqb, eqb-true}
-use Rattle.rules.specs.{Tests.{if◌then◌else◌, ◌=?◌, ◌<?◌}, Bytes.{zeros?, of_le}, Record.{possible_cabinet, ◌is◌, live, Whole, device_of, standing}, Refusals.{◌gives◌, verdict}, Table.{row_of, fits?}}
+use Rattle.std.specs.Prelude.{if◌then◌else◌}
+use Rattle.rules.specs.{Tests.{◌=?◌, ◌<?◌}, Bytes.{zeros?, of_le}, Record.{possible_cabinet, ◌is◌, live, Whole, device_of, standing}, Refusals.{◌gives◌, verdict}, Table.{row_of, fits?}}
 use Rattle.rules.specs.{Module.{Call, call_in, checks, change}, Cabinet.{Result, call_result, outcome, gate_checks}, Thresholds.{set_threshold_of, threshold_checks}, Reserved.RequestT05}
 use Rattle.rules.specs.declared.{Refusal.TheVariants.{R, Status}, Verdict.Verdict, Verdict.TheVariants.{Accepted, Refused}, Phase.TheVariants.Receiving, Device.Device}
 use Rattle.rules.proofs.page.Passed.{and_then, verdict_join}

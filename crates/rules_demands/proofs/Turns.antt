@@ -5,7 +5,8 @@ use native.Mathlib.Omega.{arith}
 use borrow.Author.Tests.{ne_eqb, eqb-false}
 use mathlib.Core.{Path.{◌≡◌, refl, sym, ◌∙◌, ap, subst}, Logic.{◌⊎◌, inl, inr}, Bool.{Bool, true, false}, List.{List, [], ◌∷◌, ◌++◌, append-nil, append_assoc}}
 use lib.ListN.{length}
-use Rattle.rules.specs.Tests.{if◌then◌else◌, ◌=?◌}
+use Rattle.std.specs.Prelude.{if◌then◌else◌}
+use Rattle.rules.specs.Tests.{◌=?◌}
 use Rattle.rules.specs.History.{All, leads_to, ◌and_then◌}
 use Rattle.rules.specs.Transfers.{Exchange, History, Kind, Started, Sent, Finished, Ticked, Powered, Other, kind_of, Open, none, by, after_power, open_after, open_next, InOrder, AllInOrder, ByStarter, AllByStarter}
 use Rattle.rules.proofs.histories.Joining.{leads_join, throughout_right}

@@ -2,7 +2,8 @@
 -- Assumes nothing.
 use Prim.Native.Nat.{ℕ, ◌+◌}
 use mathlib.Core.{Path.{◌≡◌, refl, ◌∙◌, ap}, Bool.{Bool, true, false, not}, List.{List, [], ◌∷◌, ◌++◌}}
-use Rattle.rules.{specs.Tests.{if◌then◌else◌, ◌=?◌}, specs.Record.Whole, specs.Table.{table, row_of}, specs.Module.{call_of, call_in}, specs.Cabinet.{Event, call, tick, power, reading, step}}
+use Rattle.std.specs.Prelude.{if◌then◌else◌}
+use Rattle.rules.{specs.Tests.{◌=?◌}, specs.Record.Whole, specs.Table.{table, row_of}, specs.Module.{call_of, call_in}, specs.Cabinet.{Event, call, tick, power, reading, step}}
 use Rattle.rules.specs.History.{keep, history_of, end, Plays}
 use Rattle.rules.specs.Transfers.{Answer, machine, Exchange, History, Kind, Started, Sent, Finished, Ticked, Powered, Other, call_kind, event_kind, kind_of}
 use Rattle.rules.{specs.Sends.{is_send_of, own_sends, others, piece_of, pieces, tick_count, ticks_in, power_count, power_cycles}, specs.Demand3.{remains, struck}}

@@ -4,7 +4,8 @@
 use Rattle.std.specs.Prelude.{ℕ, ◌+◌, ◌-◌, ◌<◌}
 use mathlib.Core.{Path.◌≡◌, Logic.{◌⊎◌, ◌↔◌}, Bool.{true, not, ◌||◌}, List.{List, [], ◌∷◌, ◌++◌}}
 use Rattle.std.specs.Prelude.{length, take, drop}
-use Rattle.rules.specs.Tests.{if◌then◌else◌, ◌=?◌, ◌<?◌}
+use Rattle.std.specs.Prelude.{if◌then◌else◌}
+use Rattle.rules.specs.Tests.{◌=?◌, ◌<?◌}
 use Rattle.rules.specs.Bytes.{le, zeros}
 use Rattle.rules.specs.With.{◌with_attempts◌, ◌with_security◌, ◌with_reading◌, ◌with_trips◌}
 use Rattle.rules.specs.Record.{fresh, possible_cabinet, Whole, whole_of, standing}

@@ -3,7 +3,7 @@
 use Rattle.std.specs.Prelude.{ℕ, ◌+◌}
 use mathlib.Core.{Path.◌≡◌, Bool.{Bool, true}, List.{List, [], ◌∷◌, ◌++◌, map}}
 use Rattle.std.specs.Prelude.{length, replicate}
-use Rattle.rules.specs.Tests.{if◌then◌else◌}
+use Rattle.std.specs.Prelude.{if◌then◌else◌}
 use Rattle.rules.specs.With.{◌with_transfer◌, ◌with_phase◌, ◌with_received◌, ◌with_staged◌}
 use Rattle.rules.specs.Record.{◌is◌, fresh, Whole, whole_of}
 use Rattle.rules.specs.Cabinet.{Event, call, power, reading}

@@ -4,7 +4,8 @@
 use Rattle.std.specs.Prelude.{ℕ, ◌*◌, ◌/◌, ◌%◌, ◌^◌, ◌<◌}
 use mathlib.Core.{Path.◌≡◌, Logic.{◌↔◌, ◌⊎◌}, Bool.{Bool, true, false, not, ◌&&◌}, List.{List, [], ◌∷◌, map}}
 use Rattle.std.specs.Prelude.{length, take, drop}
-use Rattle.rules.specs.Tests.{if◌then◌else◌, ◌≤?◌, ◌=?◌}
+use Rattle.std.specs.Prelude.{if◌then◌else◌}
+use Rattle.rules.specs.Tests.{◌≤?◌, ◌=?◌}
 use Rattle.rules.specs.{Bytes.{number_at}, Image.{sum_of_words, good_record, good_image}, Record.{possible, possible_parts, possible_cabinet, fresh}, Health.{new_reading, trips}, Adopt.{possible_before, adoptable, adopted, adopted_cabinet}}
 use Rattle.rules.specs.With.{◌with_transfer◌, ◌with_thresholds◌, ◌with_reading◌, ◌with_trips◌, ◌with_phase◌, ◌with_current◌, ◌with_received◌, ◌with_reason◌}
 use Rattle.rules.specs.Fault.{reason_number, none, ◌of_record◌, first_fault, image_of}

@@ -4,7 +4,8 @@
 use Rattle.std.specs.Prelude.{ℕ, ◌+◌, ◌-◌, ◌<◌}
 use mathlib.Core.{Path.◌≡◌, Bool.{true, false}, List.{[], ◌∷◌, ◌++◌, map}}
 use lib.{ListN.replicate, IntN.{pos, neg_ℤ}, Signed.◌<ℤ◌}
-use Rattle.rules.specs.Tests.{if◌then◌else◌, ◌<?◌}
+use Rattle.std.specs.Prelude.{if◌then◌else◌}
+use Rattle.rules.specs.Tests.{◌<?◌}
 use Rattle.rules.specs.Bytes.{on}
 use Rattle.rules.specs.Health.{new_reading, sixteenths, above, trips, health_answer}
 use Rattle.rules.specs.declared.{Thresholds.Thresholds, Reading.Reading}

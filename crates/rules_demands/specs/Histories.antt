@@ -4,7 +4,8 @@
 use Rattle.std.specs.Prelude.{ℕ, ◌≤◌, ◌<◌}
 use mathlib.Core.{Path.◌≡◌, Logic.{◌⊎◌, ◌↔◌}, Bool.true, List.{List, ◌∷◌}}
 use Rattle.std.specs.Prelude.{length, take}
-use Rattle.rules.specs.Tests.{if◌then◌else◌, ◌=?◌}
+use Rattle.std.specs.Prelude.{if◌then◌else◌}
+use Rattle.rules.specs.Tests.{◌=?◌}
 use Rattle.rules.specs.Record.{fresh_cabinet, possible_cabinet, Whole, whole_of}
 use Rattle.rules.specs.Fault.{image_of}
 use Rattle.rules.specs.Cabinet.{Event, tick, step}

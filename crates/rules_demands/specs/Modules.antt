@@ -5,7 +5,8 @@
 use Rattle.std.specs.Prelude.{ℕ, ◌≤◌}
 use mathlib.Core.{Path.◌≡◌, Logic.◌⊎◌, Bool.{Bool, true, false, ◌&&◌}, List.{List, [], ◌∷◌, ◌++◌, map}}
 use Rattle.std.specs.Prelude.{length, replicate}
-use Rattle.rules.specs.Tests.{if◌then◌else◌, ◌=?◌}
+use Rattle.std.specs.Prelude.{if◌then◌else◌}
+use Rattle.rules.specs.Tests.{◌=?◌}
 use Rattle.rules.specs.Bytes.{le, number_at}
 use Rattle.rules.specs.With.{◌with_transfer◌, ◌with_phase◌, ◌with_current◌, ◌with_ticks◌, ◌with_reason◌}
 use Rattle.rules.specs.Record.{fresh, possible_cabinet, Whole, whole_of}

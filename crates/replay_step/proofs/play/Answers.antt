@@ -4,8 +4,8 @@ use Rattle.replay_step.proofs.Steps.{as_call, request_within}
 use Rattle.replay_step.proofs.play.Goals as goal
 
 pub slice_bounds-call-end : goal.slice_bounds-call-end
-slice_bounds-call-end c = request_within c.args.bytes.now c.requires.1 c.entry-1.given.1
+slice_bounds-call-end c = request_within c.args.bytes.now c.requires.value c.in-Call.is
 
 pub returns-in-Call : goal.returns-in-Call
 returns-in-Call c = let a = c.args in
-    as_call (whole_of a.c a.area.now) a.bytes.now a.answer.now c.requires.1 c.entry-1.given.1 c.requires.0 c.call.ensures
+    as_call (whole_of a.c a.area.now) a.bytes.now a.answer.now c.requires.value c.in-Call.is c.requires.answer_len c.call.ensures

@@ -4,7 +4,8 @@ use Prim.Native.Nat.{ℕ, ◌+◌, ◌-◌, ◌≤◌, ◌<◌}
 use mathlib.Core.{Path.{◌≡◌, refl, sym, ◌∙◌, ap, subst}, Bool.{Bool, true, false, not, ◌||◌}, List.{[], List, ◌∷◌, ◌++◌, append_assoc, append-nil}}
 use native.Mathlib.Omega.{arith}
 use borrow.Author.Tests.{eqb-true, ne_eqb}
-use Rattle.rules.specs.{Tests.{if◌then◌else◌, ◌=?◌}, Numbers.verification, With.{◌with_ticks◌, ◌with_phase◌, ◌with_received◌}, Record.{◌is◌, has_area, Whole}, Fault.image_of, Refusals.refused?}
+use Rattle.std.specs.Prelude.{if◌then◌else◌}
+use Rattle.rules.specs.{Tests.{◌=?◌}, Numbers.verification, With.{◌with_ticks◌, ◌with_phase◌, ◌with_received◌}, Record.{◌is◌, has_area, Whole}, Fault.image_of, Refusals.refused?}
 use Rattle.rules.specs.{Transfer.{TransferCall, GetFwInfo, Start, Send, Finish, Query, received_bytes}, Module.OnTransfer, Cabinet.tick, History.{Plays, end, All, after_exchange}}
 use Rattle.rules.specs.Transfers.{Answer, machine, Exchange, History, Kind, Started, Sent, Finished, Ticked, Other, call_kind, kind_of, Open, none, by, bytes_so_far, ContextIs, InOrder, AllInOrder, open_next}
 use Rattle.rules.specs.{Sends.{own_sends, pieces, FinishedIn, tick_count, ticks_in, power_count, power_cycles}, Demand3.{remains, Sound, Due, received_in}, declared.Phase.Phase}

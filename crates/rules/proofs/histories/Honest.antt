@@ -5,7 +5,8 @@ use mathlib.Core.{Path.{◌≡◌, refl, sym, ◌∙◌}, Logic.{inl, inr}, Bool
 use native.Mathlib.Omega.{arith}
 use lib.ListN.{length}
 use borrow.Author.Tests.{leb-true, eqb-true, not-false}
-use Rattle.rules.specs.{Tests.{if◌then◌else◌, ◌=?◌, ◌≤?◌}, Refusals.refused?, Table.{table, look_up, row_of, fits?}, Transfer.{GetFwInfo, Start, Send, Finish, Query}}
+use Rattle.std.specs.Prelude.{if◌then◌else◌}
+use Rattle.rules.specs.{Tests.{◌=?◌, ◌≤?◌}, Refusals.refused?, Table.{table, look_up, row_of, fits?}, Transfer.{GetFwInfo, Start, Send, Finish, Query}}
 use Rattle.rules.specs.{Module.call_of, Cabinet.call, History.{All, keep}, Transfers.{Exchange, History}}
 use Rattle.rules.specs.{Hosts.{Carries, Uses, AnsweredTo, HonestAfter, Honest}, Demand3.{remains, struck}, declared.Verdict.Verdict}
 use Rattle.rules.specs.{declared.Verdict.TheVariants.{Accepted, Refused}, declared.Row.Row, declared.Function.Function}

@@ -3,7 +3,8 @@
 use Prim.Native.Nat.{ℕ, ◌+◌, ◌≤◌}
 use mathlib.Core.{Path.{◌≡◌, refl, sym, ◌∙◌, ap}, Bool.{Bool, true, false, not}, List.{List, ◌++◌}}
 use native.Mathlib.Omega.{arith}
-use Rattle.rules.specs.{Tests.{if◌then◌else◌, ◌<?◌}, Module.call_in, Cabinet.{Event, call, tick, power, reading}, Demand1.module_over1, Bytes.{le, number_at}, Table.row_of, Numbers.last_context, Refusals.{refused?, status_bytes, answer_after}}
+use Rattle.std.specs.Prelude.{if◌then◌else◌}
+use Rattle.rules.specs.{Tests.{◌<?◌}, Module.call_in, Cabinet.{Event, call, tick, power, reading}, Demand1.module_over1, Bytes.{le, number_at}, Table.row_of, Numbers.last_context, Refusals.{refused?, status_bytes, answer_after}}
 use Rattle.rules.specs.Transfer.{TransferCall, GetFwInfo, Start, Send, Finish, Query, transfer_answer}
 use Rattle.rules.specs.{Transfers.{Answer, Exchange, kind_of, event_kind, Kind, Started, Sent, Finished, Ticked, Powered, Other}, declared.Refusal.TheVariants.{R, Status}}
 use Rattle.rules.specs.{declared.Verdict.Verdict, declared.Verdict.TheVariants.{Accepted, Refused}}

@@ -5,7 +5,8 @@ use mathlib.Core.{Path.{◌≡◌, refl, sym, ◌∙◌, ap, subst}, Bool.{Bool,
 use native.Mathlib.Omega.{arith}
 use lib.{ListN.{length, take, drop, length-append, length-take}, Seq.take_at}
 use borrow.Author.Tests.{eqb-true, eqb-false, eq-eqb, ne_eqb, not-true, not-false}
-use Rattle.rules.specs.{Tests.{if◌then◌else◌, ◌=?◌, ◌<?◌}, Bytes.{number_at, splice}, Numbers.area_size, Record.{◌is◌, has_area, current, Whole}, Refusals.refused?, Table.row_of}
+use Rattle.std.specs.Prelude.{if◌then◌else◌}
+use Rattle.rules.specs.{Tests.{◌=?◌, ◌<?◌}, Bytes.{number_at, splice}, Numbers.area_size, Record.{◌is◌, has_area, current, Whole}, Refusals.refused?, Table.row_of}
 use Rattle.rules.specs.{Transfer.{TransferCall, GetFwInfo, Start, Send, Finish, Query, received_bytes}, Module.call_in, Cabinet.{Event, call, tick, power, reading}, History.{Plays, end, All, leads_to}}
 use Rattle.rules.specs.Transfers.{Answer, machine, Exchange, History, Kind, Started, Sent, Finished, Ticked, Powered, Other, kind_of, event_kind, Open, none, by, bytes_so_far, with_piece, after_power, open_after, ContextIs, InOrder, AllInOrder, open_next}
 use Rattle.rules.specs.{Hosts.{Uses, AnsweredTo}, Demand1.buffer_too_short, Demand3.{remains, Sound}, declared.Phase.Phase, declared.Phase.TheVariants.{Receiving, Verifying}}

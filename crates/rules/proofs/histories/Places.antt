@@ -4,7 +4,8 @@ use Prim.Native.Nat.{ℕ, ◌≤◌}
 use mathlib.Core.{Path.{◌≡◌, refl, ap}, Bool.{Bool, true, false, not}}
 use native.Mathlib.Omega.{arith}
 use borrow.Author.Tests.{le-ltb}
-use Rattle.rules.specs.{Tests.{if◌then◌else◌, ◌=?◌, ◌<?◌}, Transfers.Powered, Sends.power_count}
+use Rattle.std.specs.Prelude.{if◌then◌else◌}
+use Rattle.rules.specs.{Tests.{◌=?◌, ◌<?◌}, Transfers.Powered, Sends.power_count}
 use Rattle.rules.proofs.{page.Split.{number, mine?, toward, Doing, Act, Mine}, page.Through.side_named}
 
 -- a module of number 0 or 1 is there

@@ -4,7 +4,8 @@ use Prim.Native.Nat.{ℕ, zero, suc, ◌≤◌}
 use mathlib.Core.{Path.{◌≡◌, refl, sym, ◌∙◌, ap, subst}, Logic.{◌⊎◌, inl, inr}, Bool.{Bool, true, false, ◌||◌, ◌&&◌}, List.{List, ◌∷◌}}
 use native.Mathlib.Omega.{arith}
 use borrow.Author.Tests.{eqb-true, eq-eqb}
-use Rattle.rules.specs.{Tests.{if◌then◌else◌, ◌=?◌}, Record.{◌is◌, Whole}, Fault.image_of, Refusals.refused?}
+use Rattle.std.specs.Prelude.{if◌then◌else◌}
+use Rattle.rules.specs.{Tests.{◌=?◌}, Record.{◌is◌, Whole}, Fault.image_of, Refusals.refused?}
 use Rattle.rules.specs.Transfer.{TransferCall, GetFwInfo, Start, Send, Finish, Query, received_bytes}
 use Rattle.rules.specs.{Module.OnTransfer, Cabinet.{Event, call, tick, power, reading}, History.{end, after_exchange}}
 use Rattle.rules.specs.Transfers.{Answer, machine, Exchange, History, Kind, Started, Sent, Finished, Other, call_kind, kind_of}

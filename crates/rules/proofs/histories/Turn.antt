@@ -3,7 +3,8 @@
 use Prim.Native.Nat.{ℕ, ◌≤◌}
 use mathlib.Core.{Path.{◌≡◌, refl, sym, ◌∙◌, subst}, Logic.{inl, inr}, Bool.Bool, List.{[], List, ◌∷◌}}
 use native.Mathlib.Omega.{arith}
-use Rattle.rules.specs.{Tests.{if◌then◌else◌, ◌=?◌}, Record.Whole, History.{Plays, All}}
+use Rattle.std.specs.Prelude.{if◌then◌else◌}
+use Rattle.rules.specs.{Tests.{◌=?◌}, Record.Whole, History.{Plays, All}}
 use Rattle.rules.specs.Transfers.{machine, Exchange, History, Kind, Started, Sent, Finished, Ticked, Powered, Other, kind_of, Open, none, by, with_piece, after_power, open_after, ContextIs, InOrder, StarterIs, ByStarter, AllByStarter}
 use Rattle.rules.specs.{Hosts.{AnsweredTo, HonestAfter}, Demand3.Sound}
 use Rattle.rules.proofs.{page.Choice.if_both, page.Possible.sound_next, histories.Gate.Remains, histories.KindOf.NoStart, histories.Order.{Fits, UsesKind, goes, StartedAt, started_at}}

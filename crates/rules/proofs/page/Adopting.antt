@@ -3,7 +3,8 @@
 use mathlib.Core.{Path.{◌≡◌, refl, sym, ◌∙◌, ap, subst}, Logic.◌↔◌, Bool.{Bool, true, false, not, ◌&&◌, ◌||◌}}
 use Prim.Native.Nat.{ℕ}
 use native.Mathlib.Omega.{arith}
-use Rattle.rules.specs.{Tests.{if◌then◌else◌, ◌=?◌, ◌≤?◌}, Bytes.zeros?, With.{◌with_phase◌, ◌with_received◌}}
+use Rattle.std.specs.Prelude.{if◌then◌else◌}
+use Rattle.rules.specs.{Tests.{◌=?◌, ◌≤?◌}, Bytes.zeros?, With.{◌with_phase◌, ◌with_received◌}}
 use Rattle.rules.specs.{Record.{◌is◌, current, has_area, fresh, possible, possible_current, possible_numbers, possible_fault, possible_transfer, possible_security, possible_thresholds, possible_reading, possible_parts, possible_trips, possible_cabinet, renewed}, Health.{above, trips}}
 use Rattle.rules.specs.Adopt.{given_alone, possible_alone, possible_parts_alone, possible_before, kept_before, adoptable, idle_again, adopted, adopted_cabinet, Adopting, no_reading}
 use Rattle.rules.specs.{declared.Phase.Phase, declared.Phase.TheVariants.{Idle, Receiving, Verifying, Staged, Failed}, declared.Transfer.Transfer, declared.Device.Device}

@@ -5,7 +5,8 @@ use Prim.Native.Nat.{ℕ, ◌+◌, ◌-◌, ◌≤◌}
 use mathlib.Core.{Path.{◌≡◌, refl, sym, ◌∙◌, ap, subst}, Bool.{Bool, true, false, not, ◌||◌}, List.{List, ◌++◌}}
 use native.Mathlib.Omega.{arith}
 use lib.ListN.{length, take}
-use Rattle.rules.specs.{Tests.{if◌then◌else◌, ◌=?◌, ◌<?◌}, Bytes.{number_at, splice}, Numbers.verification, Record.{◌is◌, has_area}, Fault.image_of, With.{◌with_phase◌, ◌with_received◌, ◌with_ticks◌, ◌with_transfer◌}}
+use Rattle.std.specs.Prelude.{if◌then◌else◌}
+use Rattle.rules.specs.{Tests.{◌=?◌, ◌<?◌}, Bytes.{number_at, splice}, Numbers.verification, Record.{◌is◌, has_area}, Fault.image_of, With.{◌with_phase◌, ◌with_received◌, ◌with_ticks◌, ◌with_transfer◌}}
 use Rattle.rules.specs.Transfer.{TransferCall, GetFwInfo, Start, Send, Finish, Query, start_change, send_change, finish_change, after_verifying, tick_change, received_bytes}
 use Rattle.rules.specs.{Module.device_ticked, Transfers.Answer, declared.Refusal.TheVariants.{R, Status}, declared.Verdict.Verdict, declared.Verdict.TheVariants.{Accepted, Refused}}
 use Rattle.rules.specs.{declared.Phase.Phase, declared.Phase.TheVariants.{Idle, Receiving, Verifying}, declared.Transfer.Transfer, declared.Device.Device}

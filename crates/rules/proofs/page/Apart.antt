@@ -2,7 +2,8 @@
 -- Assumes nothing.
 use Prim.Native.Nat.{ℕ, ◌≤◌}
 use mathlib.Core.{Path.{◌≡◌, refl, ◌∙◌}, Bool.{Bool, true, false, not, true≢false}, List.{List, [], ◌∷◌, ◌++◌}}
-use Rattle.rules.specs.{Tests.{if◌then◌else◌, ◌=?◌, ◌<?◌}, Record.{Whole, device_of, with_device_at, standing}, Table.{row_of, served_check, length_check}}
+use Rattle.std.specs.Prelude.{if◌then◌else◌}
+use Rattle.rules.specs.{Tests.{◌=?◌, ◌<?◌}, Record.{Whole, device_of, with_device_at, standing}, Table.{row_of, served_check, length_check}}
 use Rattle.rules.specs.{Refusals.{R4Check, verdict, tick_checks, event_checks, one_attempt_more}, Module.{Call, call_in, checks, change, device_powered, device_keeping}}
 use Rattle.rules.specs.Cabinet.{call, tick, power, reading, outcome, happened, ticked, powered, call_checks, reading_checks, call_result, tick_result, power_result, reading_result}
 use Rattle.rules.specs.{Apart.OtherLeft, Demand1.Among, declared.Refusal.Refusal, declared.Refusal.TheVariants.{R, Status}, declared.Verdict.Verdict, declared.Verdict.TheVariants.{Accepted, Refused}}

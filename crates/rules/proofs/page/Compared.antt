@@ -5,7 +5,8 @@ use mathlib.Core.{Path.{◌≡◌, refl, sym, ◌∙◌, ap, subst}, Bool.{Bool,
 use native.Mathlib.{Nat.zero-add, Numerals.add-one, Omega.arith}
 use borrow.Author.Tests.{lt-ltb, le-ltb, le-leb, lt-leb, eq-eqb, ne_eqb, ltb-true, ltb-false, leb-true, leb-false, eqb-true, eqb-false, not-false, not-true}
 use lib.{ListN.{length, take, drop, length-take, length-drop, take-append-drop}, Seq.{take_all, take-length}}
-use Rattle.rules.specs.{Tests.{if◌then◌else◌, ◌≤?◌, ◌<?◌, ◌=?◌}, Bytes.same?, Log.record_at}
+use Rattle.std.specs.Prelude.{if◌then◌else◌}
+use Rattle.rules.specs.{Tests.{◌≤?◌, ◌<?◌, ◌=?◌}, Bytes.same?, Log.record_at}
 use Rattle.rules.specs.Bytes.{splice}
 use Rattle.rules.specs.Compare.{compared, beyond, places_in, equal_at, fields_differing, fields_at, Difference, difference_at, differences_to, leading_on, leading_to, places, leading, differences, place_equal, place_fields, rest, left, comparison, entry, entries, list_after, rest_after, listed?, Rising, FieldsTold, any?, Laid, RequestT06}
 use Rattle.rules.specs.declared.{Comparison.Comparison, Comparison.TheVariants.{Compared, Full}}

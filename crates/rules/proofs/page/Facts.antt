@@ -5,7 +5,8 @@ use mathlib.Core.{Path.{◌≡◌, refl, sym, ◌∙◌, ap}, Bool.{Bool, true, 
 use native.Mathlib.Omega.{arith}
 use lib.{ListN.{length, take, drop, length-append, length-take}, Seq.take_at}
 use borrow.Author.Tests.{ltb-true, ltb-false, eqb-true, eqb-false, not-false}
-use Rattle.rules.specs.{Tests.{if◌then◌else◌, ◌=?◌, ◌<?◌}, Bytes.splice, Numbers.{area_size, longest_piece, last_context}, Record.{◌is◌, phase_number, current}}
+use Rattle.std.specs.Prelude.{if◌then◌else◌}
+use Rattle.rules.specs.{Tests.{◌=?◌, ◌<?◌}, Bytes.splice, Numbers.{area_size, longest_piece, last_context}, Record.{◌is◌, phase_number, current}}
 use Rattle.rules.specs.{Refusals.{verdict, status_bytes}, With.{◌with_ticks◌, ◌with_phase◌, ◌with_staged◌, ◌with_reason◌, ◌with_faulty◌}, Fault.{reason_number, image_of}}
 use Rattle.rules.specs.{Transfer.{TransferCall, Start, Send, Finish, Query, transfer_checks, transfer_answer, tick_change, received_bytes}, Transfers.Answer}
 use Rattle.rules.specs.{Demand3.remains, declared.Refusal.TheVariants.{R, Status}, declared.Verdict.Verdict, declared.Verdict.TheVariants.{Accepted, Refused}}

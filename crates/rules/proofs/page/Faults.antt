@@ -5,7 +5,8 @@ use mathlib.Core.{Path.{◌≡◌, refl, sym, ◌∙◌, ap, subst}, Logic.◌�
 use native.Mathlib.Omega.{arith}
 use lib.{ListN.{length, take, drop}, Seq.drop-drop}
 use borrow.Author.Tests.{eq-eqb, ne_eqb, eqb-true, eqb-false, ltb-true, ltb-false, leb-true, not-true, not-false}
-use Rattle.rules.specs.{Tests.{if◌then◌else◌, ◌=?◌, ◌<?◌, ◌≤?◌}, Bytes.{of_le, number_at}}
+use Rattle.std.specs.Prelude.{if◌then◌else◌}
+use Rattle.rules.specs.{Tests.{◌=?◌, ◌<?◌, ◌≤?◌}, Bytes.{of_le, number_at}}
 use Rattle.rules.specs.Image.{image_record_size, records_of, good_record, good_records, good_size, version_of, good_image}
 use Rattle.rules.specs.Fault.{reason_number, Fault, none, ◌of_record◌, number_test, count_test, version_test, sum_test, record_fault, ◌or_else◌, records_fault, first_fault, judged, image_of, image_record, passes, Named, First, RequestT03}
 use Rattle.rules.specs.declared.{Reason.Reason, Reason.TheVariants.{Size, Number, Count, Version, Sum}, Image.TheVariants.{Good, Bad}}

@@ -5,7 +5,8 @@ use mathlib.Core.{Path.{◌≡◌, refl, sym, ◌∙◌, ap, subst}, Logic.◌�
 use native.Mathlib.Omega.{arith}
 use borrow.Author.Tests.{lt-ltb, le-ltb, ltb-true, ltb-false}
 use lib.{Dec.T, IntN.{ℤ, pos, neg_ℤ}, Signed.{lt_z, ◌<ℤ◌, lt_z_yes}}
-use Rattle.rules.specs.{Tests.{if◌then◌else◌, ◌<?◌}, Bytes.{bit, on}, Health.{size, negative, sixteenths, above, spare_trips, media_trips, controller_trips, trips, RequestT04}}
+use Rattle.std.specs.Prelude.{if◌then◌else◌}
+use Rattle.rules.specs.{Tests.{◌<?◌}, Bytes.{bit, on}, Health.{size, negative, sixteenths, above, spare_trips, media_trips, controller_trips, trips, RequestT04}}
 use Rattle.rules.specs.{declared.Thresholds.Thresholds, declared.Reading.Reading}
 use Rattle.rules.proofs.page.Choice.{and_true}
 

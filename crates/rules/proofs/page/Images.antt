@@ -6,7 +6,8 @@ use native.Mathlib.Omega.{arith}
 use lib.{Dec.{leb, eqb}, ListN.{length, take, drop, length-append, length-drop, length-replicate, replicate-append-replicate, take-append-drop, drop_of_length-le}}
 use lib.Seq.{take-append-le, drop-append-le, drop-drop, drop_at, take_at, take_all, length-take-le}
 use borrow.Author.Tests.{leb-true, leb-false, eqb-true, eqb-false, eq-eqb, ne_eqb, le-leb, lt-ltb, le-ltb, ltb-false}
-use Rattle.rules.specs.{Tests.{if◌then◌else◌, ◌<?◌, ◌=?◌}, Bytes.{zeros, AreBytes}}
+use Rattle.std.specs.Prelude.{if◌then◌else◌}
+use Rattle.rules.specs.{Tests.{◌<?◌, ◌=?◌}, Bytes.{zeros, AreBytes}}
 use Rattle.rules.specs.Image.{most_records, payload_field, bytes_in, records_of, good_record, good_records, good_size, version_of, good_image}
 use Rattle.rules.specs.Fault.{image_of}
 use Rattle.rules.specs.Made.{parts_in, parts_of, first_part, made_record, made_records, made_image, carried, payload_of, making_of, reading_if, reading_of, MadeWell, PartsOf, Told, RequestT02}

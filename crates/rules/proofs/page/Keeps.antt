@@ -6,7 +6,8 @@ use mathlib.Core.{Path.{◌≡◌, refl, sym, ◌∙◌, ap, subst}, Bool.{Bool,
 use native.Mathlib.Omega.{arith}
 use lib.ListN.{length, length-append, length-take, length-drop}
 use borrow.Author.Tests.{ltb-true, ltb-false, leb-true, lt-ltb, le-leb, eqb-true, eqb-false, eq-eqb, not-true, not-false}
-use Rattle.rules.specs.{Tests.{if◌then◌else◌, ◌=?◌, ◌<?◌, ◌≤?◌, ◌implies◌, ◌unless◌}, Bytes.zeros?, Numbers.{area_size, verification, attempt_limit, last_context}}
+use Rattle.std.specs.Prelude.{if◌then◌else◌}
+use Rattle.rules.specs.{Tests.{◌=?◌, ◌<?◌, ◌≤?◌, ◌implies◌, ◌unless◌}, Bytes.zeros?, Numbers.{area_size, verification, attempt_limit, last_context}}
 use Rattle.rules.specs.{With.{◌with_ticks◌, ◌with_phase◌, ◌with_received◌}, Health.trips}
 use Rattle.rules.specs.{Record.{◌is◌, has_area, possible, possible_parts, possible_current, possible_numbers, possible_fault, possible_transfer, possible_security, possible_thresholds, possible_reading, possible_trips, current}, Refusals.{Check, ◌gives◌, verdict}}
 use Rattle.rules.specs.{Thresholds.{GetThreshold, SetThreshold}, Transfer.{TransferCall, GetFwInfo, Start, Send, Finish, Query, tick_change}}

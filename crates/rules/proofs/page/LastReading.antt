@@ -2,7 +2,8 @@
 -- Assumes nothing.
 use Prim.Native.Nat.{ℕ, ◌≤◌}
 use mathlib.Core.{Path.{◌≡◌, refl, ap, ◌∙◌}, Bool.{Bool, true, false, not}, List.List}
-use Rattle.rules.specs.{Tests.{if◌then◌else◌, ◌=?◌}, Record.{Whole, Module, device_of, with_device_at, standing}, Refusals.{verdict, tick_checks, event_checks, one_attempt_more}, Table.row_of, Beside.{last_reading, LastKept}}
+use Rattle.std.specs.Prelude.{if◌then◌else◌}
+use Rattle.rules.specs.{Tests.{◌=?◌}, Record.{Whole, Module, device_of, with_device_at, standing}, Refusals.{verdict, tick_checks, event_checks, one_attempt_more}, Table.row_of, Beside.{last_reading, LastKept}}
 use Rattle.rules.specs.Module.{Call, OnMask, OnHealth, OnThresholds, OnTransfer, OnSecurity, OnNothing, call_in, change, device_powered, device_keeping}
 use Rattle.rules.specs.Cabinet.{call, tick, power, reading, outcome, ticked, powered, kept, happened, call_checks, reading_checks, call_result, tick_result, power_result, reading_result}
 use Rattle.rules.specs.{declared.Refusal.TheVariants.{R, Status}, declared.Verdict.Verdict, declared.Verdict.TheVariants.{Accepted, Refused}, declared.Device.Device, declared.Cabinet.Cabinet, declared.Reading.Reading}

@@ -2,7 +2,8 @@
 -- Assumes nothing.
 use mathlib.Core.{Path.{◌≡◌, refl}, Bool.{Bool, true, false}, List.{[], List, ◌∷◌}}
 use Prim.Native.Nat.{ℕ}
-use Rattle.rules.specs.{Tests.{if◌then◌else◌, ◌=?◌}, Table.{unserved, look_up}, declared.Row.Row}
+use Rattle.std.specs.Prelude.{if◌then◌else◌}
+use Rattle.rules.specs.{Tests.{◌=?◌}, Table.{unserved, look_up}, declared.Row.Row}
 
 abbrev pub All : (Row → Type 0) → List (ℕ × Row) → Type 0
 All P [] = P unserved

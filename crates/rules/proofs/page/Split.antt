@@ -3,7 +3,8 @@
 -- Assumes nothing.
 use Prim.Native.Nat.{ℕ, ◌+◌}
 use mathlib.Core.{Bool.{Bool, true, false, not, ◌&&◌}, List.{List, ◌∷◌, ◌++◌, []}}
-use Rattle.rules.specs.{Tests.{if◌then◌else◌, ◌=?◌}, Bytes.le, With.{◌with_attempts◌, ◌with_transfer◌}}
+use Rattle.std.specs.Prelude.{if◌then◌else◌}
+use Rattle.rules.specs.{Tests.{◌=?◌}, Bytes.le, With.{◌with_attempts◌, ◌with_transfer◌}}
 use Rattle.rules.specs.{Refusals.{Check, ◌gives◌, verdict, R4Check, status_bytes, status_length, status_answer, answer_after}, Table.{row_of, served?, fits?, mask}}
 use Rattle.rules.specs.{Thresholds.{ThresholdCall, threshold_checks, threshold_answer, threshold_change}, Health.{trips, answer_with}}
 use Rattle.rules.specs.Transfer.{TransferCall, transfer_checks, transfer_answer, transfer_change, given_after, transfer_area, tick_change, transfer_power}

@@ -5,7 +5,8 @@ use mathlib.Core.{Path.{◌≡◌, refl, sym, ◌∙◌, ap, subst}, Logic.◌�
 use native.Mathlib.Omega.{arith}
 use lib.ListN.{length, get_or, set}
 use borrow.Author.Tests.{leb-true}
-use Rattle.rules.specs.{Tests.{if◌then◌else◌, ◌≤?◌, ◌=?◌}, Bytes.zeros, Numbers.answer_room, Record.{Whole, standing}, Table.row_of, Refusals.verdict}
+use Rattle.std.specs.Prelude.{if◌then◌else◌}
+use Rattle.rules.specs.{Tests.{◌≤?◌, ◌=?◌}, Bytes.zeros, Numbers.answer_room, Record.{Whole, standing}, Table.row_of, Refusals.verdict}
 use Rattle.rules.specs.{Module.{Call, call_of, checks}, Cabinet.{gate_checks, call_checks, call_result, outcome}}
 use Rattle.rules.specs.Log.{record_size, kind_in, named_in, host_in, revision_in, function_in, length_in, request_in, padded, good_call, bare, good_power, spare_in, media_in, controller_in, good_reading, entry_of, records_in, record_at, short_tail}
 use Rattle.rules.specs.{Replay.{replay_start, replay_call, whole_after, printed_status}, History.{All, total}}

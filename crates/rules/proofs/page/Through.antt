@@ -5,7 +5,8 @@ use mathlib.Core.{Path.{◌≡◌, refl, sym, ap, ◌∙◌}, Bool.{Bool, true, 
 use native.Mathlib.Omega.{arith}
 use lib.ListN.{length}
 use borrow.Author.Tests.{not-true, eqb-true, eqb-false, eq-eqb, ne_eqb, ltb-false}
-use Rattle.rules.specs.{Tests.{if◌then◌else◌, ◌=?◌, ◌<?◌}, Numbers.{area_size, answer_room}, Record.{has_area, possible_cabinet, Whole, whole_of, Module, module_of, standing, in_place}}
+use Rattle.std.specs.Prelude.{if◌then◌else◌}
+use Rattle.rules.specs.{Tests.{◌=?◌, ◌<?◌}, Numbers.{area_size, answer_room}, Record.{has_area, possible_cabinet, Whole, whole_of, Module, module_of, standing, in_place}}
 use Rattle.rules.specs.{Refusals.{verdict, tick_checks, event_checks, one_attempt_more, record_left}, Table.row_of, Thresholds.{GetThreshold, SetThreshold}}
 use Rattle.rules.specs.Security.{GetSecurityState, SetPassphrase, Disable, Unlock, Freeze}
 use Rattle.rules.specs.Transfer.{TransferCall, GetFwInfo, Start, Send, Finish, Query, transfer_checks}
