@@ -44,13 +44,13 @@ module _ (short : Bool) (kept grid : List (List ℕ)) (was : Reporting) {counted
   same : of grid counted ≡ tallied_tail short (of grid was.going.counting)
   same = ap (of grid) tail ∙ tail_tallied grid short was.going.counting
 
-  told_here : counted.full ≡ not (fed_by (tallied_tail short (of grid was.going.counting)) report .taken)
-  told_here = subst (λ (t : Tally). counted.full ≡ not (fed_by t report .taken)) same (told (of grid counted) report)
+  told_here : counted.full ≡ not (fed_by (tallied_tail short (of grid was.going.counting)) report).taken
+  told_here = subst (λ (t : Tally). counted.full ≡ not (fed_by t report).taken) same (told (of grid counted) report)
 
   pub refused : counted.full ≡ true → Ended short kept grid was kept (record { kept = was.kept; going = was.going; refused = counted.full })
   refused e =
       record {
-        kept_is = subst (λ (t : Tally). report ≡ fed_by t report .report) same (refused_stays (of grid counted) report e);
+        kept_is = subst (λ (t : Tally). report ≡ (fed_by t report).report) same (refused_stays (of grid counted) report e);
         going_is = refl;
         refused_is = told_here;
       }
@@ -58,7 +58,7 @@ module _ (short : Bool) (kept grid : List (List ℕ)) (was : Reporting) {counted
   pub taken : counted.full ≡ false → Ended short kept grid was grid (record { kept = counted.counts; going = was.going; refused = counted.full })
   taken e =
       record {
-        kept_is = subst (λ (t : Tally). (of grid counted).report ≡ fed_by t report .report) same (taken_is (of grid counted) report e);
+        kept_is = subst (λ (t : Tally). (of grid counted).report ≡ (fed_by t report).report) same (taken_is (of grid counted) report e);
         going_is = refl;
         refused_is = told_here;
       }
