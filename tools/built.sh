@@ -148,7 +148,7 @@ crates_under() {
             while (count) reach(words[count--])
         }
         { sub(/#.*/, "") }
-        /:/ { split($0, side, ":"); gsub(/[ \t]/, "", side[1]); under[side[1]] = side[2] }
+        /:/ { split($0, side, ":"); split(side[1], named, " "); under[named[1]] = side[2] }
         END { reach(crate); print all + 0 }' "$root/crates.txt"
 }
 
@@ -179,5 +179,5 @@ what_failed() {
 # program CRATE: lets rt prove and build a program, in crates/CRATE/out, run it on nothing, and puts it into target/bin.
 program() {
     made=crates/$1/out/$1
-    rm -f "$made" && rt run "$1" && mkdir -p target/bin && cp "$made" "target/bin/$1"
+    rm -f "$made" && (cd "crates/$1" && rt run "$1") && mkdir -p target/bin && cp "$made" "target/bin/$1"
 }

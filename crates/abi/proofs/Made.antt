@@ -5,7 +5,7 @@ use Prim.Native.Nat.{ℕ}
 use lib.{IntN.{ℤ, pos}, ListN.length}
 use borrow.Author.Tests.{eq-eqb, ne_eqb}
 use Rattle.std.specs.Prelude.{if◌then◌else◌}
-use Rattle.rules.{specs.specs.Record.fresh_cabinet}
+use Rattle.rules.specs.Record.{fresh_cabinet}
 use Rattle.cabinet_bytes.specs.Encoding.{cabinet_size, encode_cabinet}
 use Rattle.abi_keep.specs.Kept.{refusal}
 use Rattle.abi.specs.Abi.{Made}

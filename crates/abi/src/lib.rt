@@ -1,5 +1,5 @@
 // The cabinet for C: its record as bytes, the entry points under C names; and images made and read back. None asks anything of its caller.
-// include/module.h is its header.
+// Crate abi_c puts them into the static library, whose header is include/module.h.
 #![tactic(auto)]
 
 ghost use Rattle.std.specs.Prelude.{◌≡◌};
@@ -8,7 +8,7 @@ ghost use Rattle.rules.specs.Cabinet.{call_result, tick_result, power_result, re
 ghost use Rattle.rules.specs.Health.{new_reading};
 ghost use Rattle.cabinet_bytes.specs.Encoding.{decode_cabinet};
 ghost use Rattle.cabinet_slots.specs.Slots.{fresh_number, fresh_slots, write_number, write_slots, select_number, select_slots, read_number, read_record};
-ghost use Rattle.abi_images.specs.Told.{make_number, make_output, read_number as readBackNumber, read_output};
+ghost use Rattle.abi_images.specs.Told.{make_number, make_output, read_number as read_back_number, read_output};
 ghost use Rattle.abi.specs.Abi.{Called, Happened, Made, Adopted};
 
 use cabinet_encode::CABINET_SIZE;
@@ -137,7 +137,7 @@ pub extern "C" fn image_make(version: u64, payload: &[u8], output: &mut [u8]) ->
 
 #[unsafe(no_mangle)]
 pub extern "C" fn image_read(image: &[u8], output: &mut [u8]) -> i32
-    ensures value { result ≡ readBackNumber image.now output.old }
+    ensures value { result ≡ read_back_number image.now output.old }
     ensures output_after { output.new ≡ read_output image.now output.old }
 {
     abi_images::read(image, output)

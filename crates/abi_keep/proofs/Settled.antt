@@ -4,7 +4,7 @@ use mathlib.Core.{Path.{◌≡◌, sym, ◌∙◌, ap}, Bool.{Bool, true, false}
 use Prim.Native.Nat.{ℕ}
 use lib.IntN.{ℤ}
 use Rattle.std.specs.Prelude.{if◌then◌else◌}
-use Rattle.rules.{specs.specs.declared.Verdict.Verdict, specs.declared.Reply.Reply, specs.declared.Cabinet.Cabinet}
+use Rattle.rules.{specs.declared.Reply.Reply, specs.declared.Cabinet.Cabinet}
 use Rattle.cabinet_bytes.specs.Encoding.{encode_cabinet}
 use Rattle.abi_keep.specs.Kept.{told, writes, kept_by, Leaves}
 

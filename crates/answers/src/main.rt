@@ -6,9 +6,10 @@ ghost use Rattle.std.specs.Prelude.{◌≤◌, ◌≡◌};
 ghost use Rattle.program_logs.specs.Turns.{Standing};
 
 use answers_play::Answered;
-use program_files::PART;
+use program_files::{PART, System};
 use program_logs::{Logs, NAME, Turn};
 use rules::{AREA_SIZE, Cabinet};
+use std::process::ExitCode;
 
 // The text of a part, 120 lines of at most 296 bytes, and that of the end state, two digits for each byte of the area and some short lines: in whole pages.
 const TEXT: usize = 36864;
@@ -48,26 +49,28 @@ fn turn(
     }
 }
 
-fn show(logs: Logs, out: &[u8; TEXT], end: usize) -> Logs
+fn show<R: System>(rt: &R, logs: Logs, out: &[u8; TEXT], end: usize) -> Logs
     requires { Standing logs × (end ≤ 36864) }
     ensures { Standing result × (result.left ≡ logs.left) }
 {
-    program_logs::show(logs, out, end)
+    program_logs::show(rt, logs, out, end)
 }
 
-fn main() {
+fn main(rt: HostRuntime) -> ExitCode {
     let mut buf = [0u8; PART];
     let mut name = [0u8; NAME];
     let mut out = [0u8; TEXT];
     let mut area = [0u8; AREA_SIZE];
+    let mut log = program_files::no_log();
     let mut logs = program_logs::before(1);
     let mut answered = Answered {
         at: 0,
         cabinet: cabinet_record::fresh(),
     };
     while logs.left > 0 {
-        logs = program_logs::next(logs, &mut buf, &mut name);
+        logs = program_logs::next(&rt, logs, &mut log, &mut buf, &mut name);
         answered = turn(logs, answered.cabinet, &buf, &mut out, &mut area);
-        logs = show(logs, &out, answered.at);
+        logs = show(&rt, logs, &out, answered.at);
     }
+    program_files::status(logs.closed)
 }

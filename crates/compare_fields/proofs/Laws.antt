@@ -1,7 +1,7 @@
 -- Laws of the bytes of a field, which may be past the end of both records.
 -- Assumes nothing.
 use mathlib.Core.{Path.{◌≡◌, refl, sym, ◌∙◌, ap}, Bool.{Bool, true, false, not, ◌&&◌}, List.{List, [], ◌∷◌}}
-use Prim.Native.Nat.{ℕ, suc, ◌+◌, ◌*◌, ◌≤◌, ◌<◌}
+use Prim.Native.Nat.{ℕ, ◌+◌, ◌*◌, ◌≤◌, ◌<◌}
 use lib.{Dec.eqb, ListN.{length, get_or, take, drop, drop_of_length-le}, Seq.{drop-cons, drop-drop}}
 use Rattle.std.specs.Prelude.{if◌then◌else◌}
 use Rattle.rules.specs.{Tests.{◌=?◌}, Bytes.same?}

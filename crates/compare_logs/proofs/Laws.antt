@@ -1,6 +1,6 @@
 -- Laws of the part that is handed back, and of what is counted of two logs.
 -- Assumes nothing.
-use mathlib.Core.{Path.{◌≡◌, refl, sym, ◌∙◌, ap, subst}, Bool.{Bool, true, false}, List.{List, [], ◌∷◌}}
+use mathlib.Core.{Path.{◌≡◌, refl, sym, ◌∙◌, ap, subst}, Bool.{Bool, true, false, cond}, List.{List, [], ◌∷◌}}
 use Prim.Native.Nat.{ℕ, zero, suc, min, ◌+◌, ◌-◌, ◌≤◌, ◌<◌}
 use native.Mathlib.{Nat.zero-add, Omega.arith}
 use borrow.Author.Tests.{le-leb, lt-leb, leb-true, leb-false}
@@ -23,22 +23,22 @@ lies log from =
 module _ (first second part : Bor (List ℕ)) where
   pub first_longer : length second.now ≤ length first.now → Lies first (length second.now) part → RestOf first second part
   first_longer h p =
-      subst (λ (t : Bool). if t then Lies first (length second.now) part else Lies second (length first.now) part) (sym (le-leb (length second.now) (length first.now) h)) p
+      subst (λ (t : Bool). cond t (Lies first (length second.now) part) (Lies second (length first.now) part)) (sym (le-leb (length second.now) (length first.now) h)) p
 
   pub second_longer : length first.now < length second.now → Lies second (length first.now) part → RestOf first second part
   second_longer h p =
-      subst (λ (t : Bool). if t then Lies first (length second.now) part else Lies second (length first.now) part) (sym (lt-leb (length second.now) (length first.now) h)) p
+      subst (λ (t : Bool). cond t (Lies first (length second.now) part) (Lies second (length first.now) part)) (sym (lt-leb (length second.now) (length first.now) h)) p
 
   -- the bytes of what is handed back
   pub bytes_back : (r : Comparison) → HandedBack r first second part → part.now ≡ rest_after r first.now second.now
-  bytes_back (Compared leading differing left) p = go (length second.now ≤? length first.now) refl
+  bytes_back (Compared _ _ _) p = go (length second.now ≤? length first.now) refl
     where
       go : (t : Bool) → (length second.now ≤? length first.now) ≡ t → part.now ≡ rest_of first.now second.now
       go true e =
-          (subst (λ (t : Bool). if t then Lies first (length second.now) part else Lies second (length first.now) part) e p).bytes
+          (subst (λ (t : Bool). cond t (Lies first (length second.now) part) (Lies second (length first.now) part)) e p).bytes
           ∙ ap (λ (t : Bool). if t then beyond first.now second.now else beyond second.now first.now) (sym e)
       go false e =
-          (subst (λ (t : Bool). if t then Lies first (length second.now) part else Lies second (length first.now) part) e p).bytes
+          (subst (λ (t : Bool). cond t (Lies first (length second.now) part) (Lies second (length first.now) part)) e p).bytes
           ∙ ap (λ (t : Bool). if t then beyond first.now second.now else beyond second.now first.now) (sym e)
   bytes_back (Full differing) p = p.bytes
 

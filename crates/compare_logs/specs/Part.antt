@@ -1,10 +1,9 @@
 -- Document 02, T-06: the part that is handed back, as it lies in a log that was lent.
 -- Assumes nothing.
-use Rattle.std.specs.Prelude.{ℕ, ◌+◌, ◌<◌, ◌≤◌, length, drop}
+use Rattle.std.specs.Prelude.{ℕ, ◌+◌, ◌<◌, ◌≤◌, cond, length, drop}
 use mathlib.Core.{Path.◌≡◌, List.List}
 use Rattle.std.specs.Borrow.{Bor}
-use Rattle.std.specs.Prelude.{if◌then◌else◌}
-use Rattle.rules.specs.{Tests.{◌≤?◌}, declared.Comparison.Comparison, declared.Comparison.TheVariants.{Compared, Full}}
+use Rattle.rules.specs.{Tests.◌≤?◌, declared.Comparison.Comparison, declared.Comparison.TheVariants.{Compared, Full}}
 use Rattle.rules.specs.Compare.{differences, comparison}
 
 -- the part of a log from a byte on: where it begins in memory, and its bytes
@@ -15,7 +14,7 @@ pub record Lies (log : Bor (List ℕ)) (from : ℕ) (part : Bor (List ℕ)) : Ty
 -- "hand back the rest of whichever log is longer, as it lies in that log. Equal lengths hand back the empty end of the first."
 abbrev pub RestOf : (first second part : Bor (List ℕ)) → Type 0
 RestOf first second part =
-    if length second.now ≤? length first.now then Lies first (length second.now) part else Lies second (length first.now) part
+    cond (length second.now ≤? length first.now) (Lies first (length second.now) part) (Lies second (length first.now) part)
 
 -- of a report; where the list was full, "the empty end of the first is handed back"
 abbrev pub HandedBack : Comparison → (first second part : Bor (List ℕ)) → Type 0

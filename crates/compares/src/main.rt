@@ -7,9 +7,9 @@ ghost use Rattle.program_logs.specs.Turns.{part_size};
 ghost use Rattle.compare_turns.specs.Turned.{text_room};
 
 use compare_turns::{PLACES, TEXT, TURNS, Told};
-use libc::{STDERR_FILENO, STDOUT_FILENO};
-use program_files::{Filled, PART};
+use program_files::{Filled, Log, PART, System};
 use program_logs::NAME;
+use std::process::ExitCode;
 
 // What was told of two logs, and which of them could not be read to its end.
 #[derive(Drop)]
@@ -20,7 +20,7 @@ struct Went {
 }
 
 // The next part of a log. Where the part before it did not fill the buffer the log is over, and is not asked again.
-fn next_part(log: i32, buf: &mut [u8; PART], before: usize) -> Filled
+fn next_part<R: System>(rt: &R, log: &mut Log, buf: &mut [u8; PART], before: usize) -> Filled
     ensures have_le_part_size { result.have ≤ part_size }
     ensures have_value { before < part_size → result.have ≡ 0 }
 {
@@ -30,13 +30,14 @@ fn next_part(log: i32, buf: &mut [u8; PART], before: usize) -> Filled
             failed: false,
         };
     }
-    program_files::fill(log, buf)
+    program_files::fill(rt, log, buf)
 }
 
 // Reads both logs side by side to their ends.
-fn go_through(
-    first: i32,
-    second: i32,
+fn go_through<R: System>(
+    rt: &R,
+    first: &mut Log,
+    second: &mut Log,
     a: &mut [u8; PART],
     b: &mut [u8; PART],
     list: &mut [u64; PLACES],
@@ -46,8 +47,8 @@ fn go_through(
     let mut two = PART;
     let mut turns = TURNS;
     while turns > 0 {
-        let of_first = next_part(first, a, one);
-        let of_second = next_part(second, b, two);
+        let of_first = next_part(rt, first, a, one);
+        let of_second = next_part(rt, second, b, two);
         if of_first.failed | of_second.failed {
             return Went {
                 told,
@@ -75,49 +76,54 @@ fn go_through(
 }
 
 // Writes the front of a buffer out.
-fn write(out: &[u8], end: usize)
+fn write<R: System>(rt: &R, out: &[u8], end: usize) -> ExitCode
     requires { end ≤ length out.now }
 {
-    let written = io::write_all(STDOUT_FILENO, &out[0..end]);
-    if !written {
-        os::fail(b"standard output");
-    }
+    let shown = program_files::show(rt, out, end);
+    program_files::status(shown.closed)
 }
 
 // Writes the text of the report out.
-fn show(out: &mut [u8; TEXT], told: Told, list: &[u64; PLACES]) {
+fn show<R: System>(rt: &R, out: &mut [u8; TEXT], told: Told, list: &[u64; PLACES]) -> ExitCode {
     let end = compare_turns::put(out, told, list);
-    write(out, end);
+    write(rt, out, end)
 }
 
-fn main() {
+fn main(rt: HostRuntime) -> ExitCode {
     let mut a = [0u8; PART];
     let mut b = [0u8; PART];
     let mut name = [0u8; NAME];
     let mut other = [0u8; NAME];
     let mut list = [0u64; PLACES];
     let mut out = [0u8; TEXT];
-    if os::arg_count() != 3 {
-        io::write_all(STDERR_FILENO, b"wants two logs\n");
-        return;
+    if program_files::arg_count(&rt) != 3 {
+        rt.say(b"wants two logs\n");
+        return ExitCode::SUCCESS;
     }
-    let first = program_files::open_log(1, &mut name);
-    if first.fd < 0 {
-        return;
+    let mut first = program_files::open_log(&rt, 1, &mut name);
+    if !program_files::is_open(&first.log) {
+        return ExitCode::SUCCESS;
     }
-    let second = program_files::open_log(2, &mut other);
-    if second.fd < 0 {
-        return;
+    let mut second = program_files::open_log(&rt, 2, &mut other);
+    if !program_files::is_open(&second.log) {
+        return ExitCode::SUCCESS;
     }
-    let went = go_through(first.fd, second.fd, &mut a, &mut b, &mut list);
+    let went = go_through(
+        &rt,
+        &mut first.log,
+        &mut second.log,
+        &mut a,
+        &mut b,
+        &mut list,
+    );
     if went.first {
-        program_files::fail_log(&name, first.size);
+        program_files::fail_log(&rt, &first.log, &name, first.size);
     }
     if went.second {
-        program_files::fail_log(&other, second.size);
+        program_files::fail_log(&rt, &second.log, &other, second.size);
     }
     if went.first | went.second {
-        return;
+        return ExitCode::SUCCESS;
     }
-    show(&mut out, went.told, &list);
+    show(&rt, &mut out, went.told, &list)
 }

@@ -10,6 +10,7 @@ ghost use Rattle.log_reader.specs.Reader.{stood_at};
 use cabinet::Outcome;
 use log_reader::{Found, Stood};
 use rules::{Cabinet, Device, Entry, Phase, Refusal, Transfer, Verdict};
+use std::io::Print;
 
 // The staging area, in bytes.
 const AREA: usize = 16384;
@@ -17,17 +18,18 @@ const AREA: usize = 16384;
 // A record of a log, in bytes.
 const RECORD: usize = 544;
 
-fn print(text: &[u8]) {
-    io::write_all(1, text);
+// What cannot be written is lost.
+fn print<R: Print>(rt: &R, text: &[u8]) {
+    let _ = rt.write_all(text);
 }
 
 // A number, and the text after it.
-fn print_number(n: u64, after: &[u8]) {
-    io::print_decimal(1, n);
-    io::write_all(1, after);
+fn print_number<R: Print>(rt: &R, n: u64, after: &[u8]) {
+    let _ = rt.print(n);
+    let _ = rt.write_all(after);
 }
 
-fn print_entry(entry: Entry) {
+fn print_entry<R: Print>(rt: &R, entry: Entry) {
     match entry {
         Entry::Call {
             named,
@@ -36,17 +38,17 @@ fn print_entry(entry: Entry) {
             function,
             length,
         } => {
-            print(b"call ");
-            print_number(named as u64, b" ");
-            print_number(host as u64, b" ");
-            print_number(revision as u64, b" ");
-            print_number(function as u64, b" ");
-            print_number(length as u64, b"\n");
+            print(rt, b"call ");
+            print_number(rt, named as u64, b" ");
+            print_number(rt, host as u64, b" ");
+            print_number(rt, revision as u64, b" ");
+            print_number(rt, function as u64, b" ");
+            print_number(rt, length as u64, b"\n");
         }
-        Entry::Tick => print(b"tick\n"),
+        Entry::Tick => print(rt, b"tick\n"),
         Entry::Power { named } => {
-            print(b"power ");
-            print_number(named as u64, b"\n");
+            print(rt, b"power ");
+            print_number(rt, named as u64, b"\n");
         }
         Entry::Health {
             named,
@@ -54,22 +56,22 @@ fn print_entry(entry: Entry) {
             media,
             controller,
         } => {
-            print(b"health ");
-            print_number(named as u64, b" ");
-            print_number(spare as u64, b" ");
-            print_number(media as u64, b" ");
-            print_number(controller as u64, b"\n");
+            print(rt, b"health ");
+            print_number(rt, named as u64, b" ");
+            print_number(rt, spare as u64, b" ");
+            print_number(rt, media as u64, b" ");
+            print_number(rt, controller as u64, b"\n");
         }
-        Entry::Bad => print(b"bad\n"),
+        Entry::Bad => print(rt, b"bad\n"),
     }
 }
 
-fn print_found(place: u64, found: Found) {
-    print_number(place, b" ");
+fn print_found<R: Print>(rt: &R, place: u64, found: Found) {
+    print_number(rt, place, b" ");
     match found {
-        Found::Record(entry) => print_entry(entry),
-        Found::Short => print(b"short\n"),
-        Found::End => print(b"end\n"),
+        Found::Record(entry) => print_entry(rt, entry),
+        Found::Short => print(rt, b"short\n"),
+        Found::End => print(rt, b"end\n"),
     }
 }
 
@@ -85,13 +87,13 @@ fn first_of(log: &[u8]) -> Stood
 }
 
 // From a place on, so many steps.
-fn print_walk(log: &[u8], from: usize, steps: u64) {
+fn print_walk<R: Print>(rt: &R, log: &[u8], from: usize, steps: u64) {
     let mut place = from;
     let mut step = 0;
     while step < steps {
         let stood = log_reader::read_at(log, place);
         let found = stood.found;
-        print_found(place as u64, found);
+        print_found(rt, place as u64, found);
         place = stood.place;
         step += 1;
     }
@@ -128,31 +130,31 @@ fn tick_mine(c: Cabinet, area: &[u8]) -> Outcome
     }
 }
 
-fn print_verdict(verdict: Verdict) {
+fn print_verdict<R: Print>(rt: &R, verdict: Verdict) {
     match verdict {
-        Verdict::Accepted => print(b"accepted "),
+        Verdict::Accepted => print(rt, b"accepted "),
         Verdict::Refused(refusal) => match refusal {
             Refusal::R { number } => {
-                print(b"R");
-                print_number(number as u64, b" ");
+                print(rt, b"R");
+                print_number(rt, number as u64, b" ");
             }
-            Refusal::Status { status, ext: _ } => print_number(status as u64, b" "),
+            Refusal::Status { status, ext: _ } => print_number(rt, status as u64, b" "),
         },
     }
 }
 
-fn print_phase(phase: Phase) {
+fn print_phase<R: Print>(rt: &R, phase: Phase) {
     match phase {
-        Phase::Idle => print(b"idle "),
-        Phase::Receiving => print(b"receiving "),
-        Phase::Verifying => print(b"verifying "),
-        Phase::Staged => print(b"staged "),
-        Phase::Failed => print(b"failed "),
+        Phase::Idle => print(rt, b"idle "),
+        Phase::Receiving => print(rt, b"receiving "),
+        Phase::Verifying => print(rt, b"verifying "),
+        Phase::Staged => print(rt, b"staged "),
+        Phase::Failed => print(rt, b"failed "),
     }
 }
 
 // The record is ticked in place; the verdict, and the phase and the ticks left of module 0 afterwards.
-fn print_tick(c: Cabinet, area: &[u8]) -> Cabinet {
+fn print_tick<R: Print>(rt: &R, c: Cabinet, area: &[u8]) -> Cabinet {
     let ticked = tick_mine(c, area);
     let reply = ticked.reply;
     let verdict = reply.verdict;
@@ -160,14 +162,14 @@ fn print_tick(c: Cabinet, area: &[u8]) -> Cabinet {
     let first = after.first;
     let transfer = first.transfer;
     let phase = transfer.phase;
-    print_verdict(verdict);
-    print_phase(phase);
-    print_number(transfer.ticks as u64, b"\n");
+    print_verdict(rt, verdict);
+    print_phase(rt, phase);
+    print_number(rt, transfer.ticks as u64, b"\n");
     after
 }
 
 // A log of a Start to module 1 from host 1 at revision 2, a tick, a record of no known kind, and 10 bytes over.
-fn walk_log() {
+fn walk_log<R: Print>(rt: &R) {
     let mut log = [0u8; 1642];
     log[0] = 1;
     log[1] = 17;
@@ -177,22 +179,22 @@ fn walk_log() {
     log[2 * RECORD] = 9;
     let first = first_of(&log);
     let found = first.found;
-    print_found(0, found);
-    print_walk(&log, first.place, 5);
-    print_walk(&log, 9, 1);
+    print_found(rt, 0, found);
+    print_walk(rt, &log, first.place, 5);
+    print_walk(rt, &log, 9, 1);
 }
 
 // Two ticks left, one, none; an area that is too short; a record that is not possible.
-fn tick_records() {
+fn tick_records<R: Print>(rt: &R) {
     let area = [0u8; AREA];
-    let c = print_tick(verifying(2), &area);
-    let d = print_tick(c, &area);
-    print_tick(d, &area);
-    print_tick(verifying(2), &area[..16383]);
-    print_tick(verifying(9), &area);
+    let c = print_tick(rt, verifying(2), &area);
+    let d = print_tick(rt, c, &area);
+    print_tick(rt, d, &area);
+    print_tick(rt, verifying(2), &area[..16383]);
+    print_tick(rt, verifying(9), &area);
 }
 
-fn main() {
-    walk_log();
-    tick_records();
+fn main(rt: HostRuntime) {
+    walk_log(&rt);
+    tick_records(&rt);
 }

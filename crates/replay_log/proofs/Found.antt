@@ -14,17 +14,17 @@ use Rattle.replay_log.specs.Places.{PlaceReplayed, found_line, found_played}
 
 module _ (log : List ℕ) (place : ℕ) where
   module _ {stood : Stood} (read : stood ≡ stood_at log place) where
-    at_place : {found : Found} → stood.found ≡ found → stood_at log place.found ≡ found
+    at_place : {found : Found} → stood.found ≡ found → (stood_at log place).found ≡ found
     at_place told = ap (λ (s : Stood). s.found) (sym read) ∙ told
 
     -- a record that was read ends within the log, and says what was read
     pub record_within : {entry : Entry} → stood.found ≡ Record entry → place * 544 + 544 ≤ length log
     record_within told =
-        let there = found_record log (place (at_place told)).0 in
+        let there = (found_record log place (at_place told)).0 in
         omega (arith, there)
 
     pub record_says : {entry : Entry} → stood.found ≡ Record entry → entry ≡ entry_of (take (place * 544 + 544 - place * 544) (drop (place * 544) log))
-    record_says told = found_record log (place (at_place told)).1 ∙ ap entry_of (sym (record_part log place))
+    record_says told = (found_record log place (at_place told)).1 ∙ ap entry_of (sym (record_part log place))
 
     -- what was found was played
     pub as_found : (number : ℕ) (w : Whole) (found : Found) {old new area : List ℕ} {at : ℕ} {p : Played} → stood.found ≡ found
@@ -38,7 +38,7 @@ module _ (log : List ℕ) (place : ℕ) where
         → RecordReplayed number w (take (place * 544 + 544 - place * 544) (drop (place * 544) log)) old at new area p
         → PlaceReplayed number w log place old at new area p
     as_record number w {entry} {old} {new} {area} {at} {p} told done =
-        let says : entry ≡ entry_of (record_at log place) = found_record log (place (at_place told)).1 in
+        let says : entry ≡ entry_of (record_at log place) = (found_record log place (at_place told)).1 in
         let here : RecordReplayed number w (record_at log place) old at new area p = subst (λ (bytes : List ℕ). RecordReplayed number w bytes old at new area p) (record_part log place) done in
         as_found number w (Record entry) told
         (subst (λ (e : Entry). Replayed line_room (found_line number w (Record e) (record_at log place)) (found_played w (Record e) (record_at log place)) old at new area p) (sym says) here)

@@ -1,14 +1,15 @@
 -- The tally of a whole log is what feeding the log comes to: it is full exactly where a count of the new report passes the largest, and else it is that report.
 -- Assumes nothing.
 use mathlib.Core.{Path.{◌≡◌, refl, sym, ◌∙◌, ap, subst}, Bool.{Bool, true, false, not, ◌&&◌, ◌||◌, true≢false, false≢true}, List.{List, [], ◌∷◌}}
-use Prim.Native.Nat.{ℕ, zero, suc, ◌+◌, ◌-◌, ◌≤◌, ◌<◌}
+use Prim.Native.Nat.{ℕ, zero, suc, ◌+◌, ◌-◌}
 use native.Mathlib.Omega.{arith}
-use lib.{Dec.leb, ListN.{get_or, set}}
+use lib.{ListN.{get_or, set}}
 use borrow.Author.Tests.{leb-true, leb-false, le-leb, lt-leb}
-use Rattle.rules.{specs.Tests.{if◌then◌else◌, ◌≤?◌}, specs.Record.Whole, specs.Log.{record_at, records_in, short_tail}, specs.Replay.{replay_start, whole_after}}
-use Rattle.rules.specs.Report.{Report, Counted, answered, masked, ticked, powered, measured, bad, record_counted, raised_at, raised, raised_short, report_after, with_tail, with_log, largest_count, row_fits, grid_fits, counts_fit, fits, fed_if, feed}
+use Rattle.std.specs.Bool.{if◌then◌else◌}
+use Rattle.rules.{specs.Tests.◌≤?◌, specs.Record.Whole, specs.Log.{record_at, records_in, short_tail}, specs.Replay.{replay_start, whole_after}}
+use Rattle.rules.specs.Report.{Report, Counted, answered, masked, ticked, powered, measured, bad, record_counted, raised_at, raised, report_after, with_tail, with_log, largest_count, row_fits, grid_fits, counts_fit, fits, fed_if, feed}
 use Rattle.rules.specs.declared.Counts.{Counts}
-use Rattle.report_tally.specs.Tally.{Tally, count_of, tallied_if, tallied, tallied_tail}
+use Rattle.report_tally.specs.Tally.{Tally, count_of, tallied_if, tallied_tail}
 use Rattle.report_log.specs.Parts.{tally_after, begun, fed_by, FedByTally}
 
 -- a count raised is below the largest before

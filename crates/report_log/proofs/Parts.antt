@@ -1,6 +1,6 @@
 -- The loop over a part's records: before the first, and one turn.
 -- Assumes nothing.
-use mathlib.Core.{Path.{◌≡◌, refl, subst}, List.List}
+use mathlib.Core.{Path.{◌≡◌, subst}, List.List}
 use Prim.Native.Nat.{ℕ, suc, ◌+◌, ◌-◌, ◌*◌}
 use native.Mathlib.Omega.{arith}
 use lib.ListN.{take, drop}

@@ -2,7 +2,7 @@
 -- Assumes nothing.
 use mathlib.Core.{Path.{◌≡◌, refl, sym, ◌∙◌, ap, subst}, List.List}
 use Prim.Native.Nat.{ℕ}
-use Rattle.rules.{specs.Record.Whole, specs.Log.{entry_of, request_in}, specs.Report.{Counted, counted_as, record_counted}}
+use Rattle.rules.{specs.Record.Whole, specs.Log.{entry_of, request_in}, specs.Report.{counted_as, record_counted}}
 use Rattle.rules.{specs.declared.Reply.Reply, specs.declared.Entry.Entry, specs.declared.Entry.TheVariants.{Call, Tick, Power, Health, Bad}, proofs.page.Sums.{hosts_of, good_hosts, status_most}}
 use Rattle.replay_step.specs.Stepped.{entry_reply, record_reply}
 use Rattle.report_tally.specs.Tally.{counted_by, HasCell}

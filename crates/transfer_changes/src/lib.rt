@@ -25,16 +25,13 @@ pub fn start(t: Transfer, given: u32) -> Transfer
     }
 }
 
-// A piece, to the front of a part of the area. It goes through an array of its own: so the compiler need not ask whether the piece lies where it is written to,
-// leaves the array away, and copies at once.
+// A piece, to the front of a part of the area.
 fn put_piece(part: &mut [u8], piece: &[u8])
     requires { (length piece.now ≤ length part.old) × (length piece.now ≤ 512) }
     ensures { part.new ≡ splice 0 piece.now part.old }
 {
     let size = piece.len();
-    let mut own = [0u8; 512];
-    bytes_base::copy(&mut own, piece);
-    bytes_base::copy(part, &own[0..size]);
+    bytes_base::copy(part, &piece[0..size]);
 }
 
 // The piece, which starts at byte 12 of the request, goes into the part of the area from offset to offset plus length.

@@ -1,7 +1,6 @@
 -- `compare_fields::same_request` meets its contract: a request is what stands behind the first eight bytes.
 -- Assumes nothing.
 use Rattle.compare_fields.proofs.Laws.{request_past}
-use Prim.Native.Nat.{◌-◌}
 use native.Mathlib.Omega.{arith}
 use Rattle.compare_fields.proofs.same_request.Goals as goal
 

@@ -1,7 +1,7 @@
 -- `replay_log::put_lines` meets its contract. The loop's invariant: the first j records were played, and their lines were written, at most 96 bytes each.
 -- The measure is what is left of the count.
 use mathlib.Core.Path.{refl}
-use Prim.Native.Nat.{◌<◌, ◌-◌}
+use Prim.Native.Nat.{◌<◌}
 use native.Mathlib.Omega.{arith}
 use borrow.Author.Rules.{rules}
 use Rattle.rules.specs.Log.{records_in}

@@ -1,6 +1,5 @@
 -- `report_log::count_part` meets its contract. The loop's invariant: the first j records were counted. The measure is what is left of the count.
 use mathlib.Core.Path.{refl}
-use Prim.Native.Nat.{◌-◌}
 use native.Mathlib.Omega.{arith}
 use borrow.Author.Rules.{rules}
 use Rattle.rules.specs.Record.{whole_of}

@@ -4,5 +4,5 @@ use Rattle.report_log.proofs.Records.{has_cell}
 use Rattle.report_log.proofs.count_record.Goals as goal
 
 pub count-counting-requires : goal.count-counting-requires
-count-counting-requires c κs = let a = c.args in
+count-counting-requires c = let a = c.args in
     has_cell (whole_of a.c a.area.now) a.«record».now c.decode-entry.ensures c.play-outcome.ensures.reply_is
