@@ -7,7 +7,7 @@ use lib.ListN.{length, length-append}
 use Rattle.rules.{specs.Tests.◌=?◌, specs.Record.Whole, specs.Log.{records_in, short_tail}, specs.Replay.{replay_start, whole_after, record_lines, heading, tail_line, last_lines, replay_text}}
 use Rattle.replay_step.{specs.Parts.{log_of, WholeRecords}, proofs.Joined.whole_joined}
 use Rattle.replay_log.proofs.Joined.{lines_joined}
-use Rattle.replays.specs.Turned.{parts_text, turns_text, TextOfTurns}
+use Rattle.replays.specs.Turned.{parts_text, TextOfTurns}
 
 -- the lines of a log from a number and a cabinet on, its tail's and the last ones
 abbrev rest : (number : ℕ) → Whole → (log : List ℕ) → List ℕ

@@ -12,10 +12,11 @@ ghost use Rattle.replay_log.specs.Places.{PartReplayed};
 ghost use Rattle.program_logs.specs.Turns.{Standing, part_size};
 ghost use Rattle.replays.specs.Turned.{text_room, TurnReplayed};
 
-use program_files::PART;
+use program_files::{PART, System};
 use program_logs::{Logs, NAME, Turn};
 use replay_play::Played;
 use rules::{ANSWER_ROOM, AREA_SIZE, Cabinet};
+use std::process::ExitCode;
 
 // The text of a part: 120 lines of at most 96 bytes, in whole pages of 4,096.
 const TEXT: usize = 12288;
@@ -86,27 +87,29 @@ fn turn(
     }
 }
 
-fn show(logs: Logs, out: &[u8; TEXT], end: usize) -> Logs
+fn show<R: System>(rt: &R, logs: Logs, out: &[u8; TEXT], end: usize) -> Logs
     requires { Standing logs × (end ≤ text_room) }
     ensures { Standing result × (result.left ≡ logs.left) }
 {
-    program_logs::show(logs, out, end)
+    program_logs::show(rt, logs, out, end)
 }
 
-fn main() {
+fn main(rt: HostRuntime) -> ExitCode {
     let mut buf = [0u8; PART];
     let mut name = [0u8; NAME];
     let mut out = [0u8; TEXT];
     let mut area = [0u8; AREA_SIZE];
     let mut answer = [0u8; ANSWER_ROOM];
+    let mut log = program_files::no_log();
     let mut logs = program_logs::before(1);
     let mut played = Played {
         at: 0,
         cabinet: cabinet_record::fresh(),
     };
     while logs.left > 0 {
-        logs = program_logs::next(logs, &mut buf, &mut name);
+        logs = program_logs::next(&rt, logs, &mut log, &mut buf, &mut name);
         played = turn(logs, played.cabinet, &buf, &mut out, &mut area, &mut answer);
-        logs = show(logs, &out, played.at);
+        logs = show(&rt, logs, &out, played.at);
     }
+    program_files::status(logs.closed)
 }

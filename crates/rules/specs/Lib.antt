@@ -21,7 +21,7 @@
 --
 -- A definition begins with `abbrev` or `unfoldable`, its name and, behind `:`, its type; the line below is what it says. `f x y` is f of x and y. `x.f` is the
 -- field f of x; `(f x).g` is the field g of `f x`; `x.f y` is the field f of x, of y; `(a, b)` is a pair, and `p.0` and `p.1` are the two halves of one.
--- `λ m. ..` is "given m, ..". `record { f = a; g = b }` is the record with these fields. Underscores in a name show where its parts go: `_with-ticks_` is
+-- `λ m. ..` is "given m, ..". `record { f = a; g = b }` is the record with these fields. Circles in a name show where its parts go: `◌with_ticks◌` is
 -- written `t with_ticks 0`. Where several lines begin with the name, they are cases: the line whose left side fits is the one that counts. Below
 -- `module _ (M : A) where` every definition takes M first.
 -- Numbers: ℕ is 0, 1, 2 and so on, of any size; `zero` and `suc n` are 0 and n + 1; `n - m` is 0 where m is the greater; `min n m` is the smaller; `/` and `%`
@@ -41,7 +41,7 @@
 -- in quotes there are the page's or the demand's own; `..` stands for words left out, and what is in [ ] is added. "Assumes nothing" says that a file rests on
 -- no unproved assumption.
 -- How tightly signs bind, which `infix` lines say: `f x y` and `x.f` tightest; then, from tight to loose: `^`, `*` `/` `%`, `gets`, `∷`, `+` `-` `++`, `and_then`,
--- comparisons and `is`, `&&`, `||`, `implies` `unless`, `gives`, `with-..`, `if`, `≡`, `⊎`, `↔`, `→`.
+-- comparisons and `is`, `&&`, `||`, `implies` `unless`, `gives`, `with_..`, `if`, `≡`, `⊎`, `↔`, `→`.
 pub mod Tests
 pub mod Bytes
 pub mod Text

@@ -1,4 +1,4 @@
--- Vocabulary: tests that come out true or false, and choices by a test, as the page's sentences use them.
+-- Vocabulary: tests that come out true or false, as the page's sentences use them. The choice by a test, `if t then a else b`, is the library's.
 -- Assumes nothing.
 use Rattle.std.specs.Prelude.{ℕ, Bool, true, false, not, ◌||◌, eqb, leb, ltb}
 

@@ -12,25 +12,25 @@ use Rattle.rules.proofs.page.Split.{number, TransferPart, call_doing, unserved?,
 use Rattle.rules.proofs.{page.Facts.{never, replies, start_ok}, page.Through.kind_call}
 
 -- the answer is no refusal
-abbrev pub Good_answer : Answer → Type 0
-Good_answer got = refused? got.reply.verdict ≡ false
+abbrev pub GoodAnswer : Answer → Type 0
+GoodAnswer got = refused? got.reply.verdict ≡ false
 
 -- the two ends of a choice by acceptance
 accepted_kind : (b : Bool) (k l : Kind) → (Other ≡ l → ⊥) → (if b then Other else k) ≡ l → (b ≡ false) × (k ≡ l)
 accepted_kind true k l n e = absurd (n e)
 accepted_kind false k l n e = (refl, e)
 
-accepted_by : (v : Verdict) (n : ℕ) (bytes answer : List ℕ) → Good_answer (answer_by v n bytes answer) → v ≡ Accepted
+accepted_by : (v : Verdict) (n : ℕ) (bytes answer : List ℕ) → GoodAnswer (answer_by v n bytes answer) → v ≡ Accepted
 accepted_by Accepted n bytes answer e = refl
 accepted_by (Refused (R number)) n bytes answer e = never e
 accepted_by (Refused (Status status ext)) n bytes answer e = never e
 
 -- where the answer is no refusal the call was accepted, and the other way round
-pub good_accepted : (k : Bool) (s : TransferPart) (a b : Bool) (x : TransferCall) (n : ℕ) (answer : List ℕ) (got : Answer) → part_answer k s a b x n answer ≡ got → Good_answer got → part_verdict k s a b x ≡ Accepted
+pub good_accepted : (k : Bool) (s : TransferPart) (a b : Bool) (x : TransferCall) (n : ℕ) (answer : List ℕ) (got : Answer) → part_answer k s a b x n answer ≡ got → GoodAnswer got → part_verdict k s a b x ≡ Accepted
 good_accepted k s a b x n answer got p g =
     accepted_by (part_verdict k s a b x) n (status_bytes 0 0 ++ transfer_answer s.transfer s.given x) answer (ap (λ (z : Answer). refused? z.reply.verdict) p ∙ g)
 
-pub accepted_good : (k : Bool) (s : TransferPart) (a b : Bool) (x : TransferCall) (n : ℕ) (answer : List ℕ) (got : Answer) → part_answer k s a b x n answer ≡ got → part_verdict k s a b x ≡ Accepted → Good_answer got
+pub accepted_good : (k : Bool) (s : TransferPart) (a b : Bool) (x : TransferCall) (n : ℕ) (answer : List ℕ) (got : Answer) → part_answer k s a b x n answer ≡ got → part_verdict k s a b x ≡ Accepted → GoodAnswer got
 accepted_good k s a b x n answer got p v = ap (λ (z : Answer). refused? z.reply.verdict) (sym p ∙ replies k s a b x n answer v)
 
 -- no Start
@@ -55,7 +55,7 @@ pub record StartDoing (d : Doing) (got : Answer) (named own host context : ℕ) 
   pub answer : List ℕ
   pub same_module : own ≡ named
   pub doing_is : d ≡ Transfers host unserved misfit Start n answer
-  pub good : Good_answer got
+  pub good : GoodAnswer got
   pub carried : number_at 4 4 got.buffer ≡ context
 
 pub started_doing : (d : Doing) (got : Answer) (own named host context : ℕ) → doing_kind own d got ≡ Started named host context → StartDoing d got named own host context
@@ -86,7 +86,7 @@ pub record FinishDoing (d : Doing) (got : Answer) (named own host context flag :
   pub answer : List ℕ
   pub same_module : own ≡ named
   pub doing_is : d ≡ Transfers host unserved misfit (Finish flag reserved context) n answer
-  pub good : Good_answer got
+  pub good : GoodAnswer got
 
 pub finished_doing : (d : Doing) (got : Answer) (own named host context flag : ℕ) → doing_kind own d got ≡ Finished named host context flag
     → FinishDoing d got named own host context flag
@@ -118,7 +118,7 @@ pub record StartAct (f : Act) (got : Answer) (host context : ℕ) : Type 0 where
   pub n : ℕ
   pub answer : List ℕ
   pub act_is : f ≡ Mine (Transfers host unserved misfit Start n answer)
-  pub good : Good_answer got
+  pub good : GoodAnswer got
   pub carried : number_at 4 4 got.buffer ≡ context
 
 pub started_act : (first : Bool) (f : Act) (got : Answer) (host context : ℕ) → act_kind first f got ≡ Started (number first) host context → StartAct f got host context
@@ -135,7 +135,7 @@ pub record FinishAct (f : Act) (got : Answer) (host context flag : ℕ) : Type 0
   pub n : ℕ
   pub answer : List ℕ
   pub act_is : f ≡ Mine (Transfers host unserved misfit (Finish flag reserved context) n answer)
-  pub good : Good_answer got
+  pub good : GoodAnswer got
 
 pub finished_act : (first : Bool) (f : Act) (got : Answer) (host context flag : ℕ) → act_kind first f got ≡ Finished (number first) host context flag
     → FinishAct f got host context flag
@@ -173,10 +173,10 @@ finished_named x named host context flag k o = go x.event k o
     go (reading n new) e l = let z : ◌≡◌ {A = ℕ} 0 1 = cc in absurd (omega arith)
 
 -- and the answer of one that started a transfer is no refusal
-pub started_good : (x : Exchange) (named host context : ℕ) → kind_of x ≡ Started named host context → Good_answer x.got
+pub started_good : (x : Exchange) (named host context : ℕ) → kind_of x ≡ Started named host context → GoodAnswer x.got
 started_good x named host context k = go x.event k
   where
-    go : (event : Event) → event_kind event x.got ≡ Started named host context → Good_answer x.got
+    go : (event : Event) → event_kind event x.got ≡ Started named host context → GoodAnswer x.got
     go (call j n revision index request answer) e =
         (started_doing (call_doing j revision index request answer) x.got n named host context
         (sym (kind_call n j (unserved? revision index) (misfit? index request) (call_in revision index request) (row_of index).answer answer x.got) ∙ e)).good
