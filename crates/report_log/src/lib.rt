@@ -11,7 +11,7 @@ use report_tally::Counting;
 use rules::{Cabinet, LOG_RECORD};
 
 // The counts beside the grid, and the record after what was played.
-#[derive(Drop)]
+#[derive(Clone, Copy)]
 pub struct Going {
     pub counting: Counting,
     pub cabinet: Cabinet,

@@ -10,7 +10,7 @@ ghost use Rattle.report_tally.specs.Tally.{tally_of, tallied, counted_by, HasCel
 use rules::{Counts, Entry, LARGEST_COUNT, Reply};
 
 // The counts beside the grid, and whether a count would have passed the largest.
-#[derive(Drop)]
+#[derive(Clone, Copy)]
 pub struct Counting {
     pub counts: Counts,
     pub full: bool,

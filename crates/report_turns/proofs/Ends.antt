@@ -3,8 +3,8 @@
 use mathlib.Core.{Path.{◌≡◌, refl, sym, ◌∙◌, ap, subst}, Bool.{Bool, true, false, not, ◌||◌}, List.List}
 use Prim.Native.Nat.{ℕ}
 use Rattle.std.specs.Prelude.{if◌then◌else◌}
-use Rattle.rules.{specs.Tests.{◌≤?◌}, specs.Report.{Report, raised_short, with_tail, largest_count, fed_if}, specs.declared.Counts.Counts}
-use Rattle.report_tally.{specs.declared.Counting.Counting, specs.Tally.{Tally, tally_of, tallied_if, tallied_tail, counted_or_full, with_tail_counted}}
+use Rattle.rules.{specs.Tests.{◌≤?◌}, specs.Report.{Report, raised_short, with_tail, largest_count, fed_if}}
+use Rattle.report_tally.{specs.declared.Counting.Counting, specs.Tally.{Tally, tally_of, tallied_if, tallied_tail, with_tail_counted}}
 use Rattle.report_log.specs.Parts.{fed_by}
 use Rattle.report_turns.specs.{declared.Reporting.Reporting, Turned.Ended}
 

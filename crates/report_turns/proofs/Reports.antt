@@ -4,13 +4,13 @@ use mathlib.Core.{Path.{◌≡◌, refl, sym, ◌∙◌, ap}, Bool.{Bool, true, 
 use Prim.Native.Nat.{ℕ, zero, suc, ◌+◌, ◌*◌, ◌%◌, ◌≤◌}
 use native.Mathlib.{Nat.{add-zero, add-suc}, Omega.arith}
 use lib.ListN.{length, length-append}
-use Rattle.rules.{specs.Tests.◌=?◌, specs.Record.Whole, specs.Log.{records_in, record_at, short_tail}, specs.Replay.{replay_start, whole_after}}
-use Rattle.rules.specs.Report.{Report, Counted, record_counted, with_log, fits, Fed, fed_if, feed, fed_next}
+use Rattle.rules.{specs.Tests.◌=?◌, specs.Record.Whole, specs.Log.{records_in, record_at, short_tail}, specs.Replay.{whole_after}}
+use Rattle.rules.specs.Report.{Report, record_counted, with_log, fits, Fed, fed_if, feed, fed_next}
 use Rattle.replay_step.{specs.Parts.{log_of, WholeRecords}, proofs.Joined.{far, near, whole_near, whole_joined}}
 use Rattle.report_tally.specs.Tally.{Tally, tallied, tallied_tail}
-use Rattle.report_log.{specs.Parts.{tally_after, begun, fed_by}, proofs.Exact.fed_by_tally}
-use Rattle.program_logs.specs.declared.Turn.TheVariants.{Beginning, Part}
-use Rattle.report_turns.specs.Turned.{State, begins, turned, parts_turned, log_read, log_turned, log_refused, log_left, ReportOfTurns}
+use Rattle.report_log.{specs.Parts.{tally_after, fed_by}, proofs.Exact.fed_by_tally}
+use Rattle.program_logs.specs.declared.Turn.TheVariants.{Part}
+use Rattle.report_turns.specs.Turned.{State, begins, turned, parts_turned, log_read, log_turned, log_refused, ReportOfTurns}
 
 -- two parts, the first of which is whole records
 module _ (a b : List ℕ) (k : ℕ) (whole : length a ≡ k * 544) (t : Tally) (w : Whole) where

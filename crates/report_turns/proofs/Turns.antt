@@ -1,10 +1,10 @@
 -- A turn that is told: each leaves what the definition says of it.
 -- Assumes nothing.
-use mathlib.Core.{Path.{◌≡◌, refl, sym, ap, subst}, Bool.{Bool, false}, List.List}
+use mathlib.Core.{Path.{◌≡◌, refl, sym, subst}, Bool.{Bool, false}, List.List}
 use Prim.Native.Nat.{ℕ}
-use Rattle.rules.{specs.Record.{Whole, whole_of}, specs.Report.Report}
+use Rattle.rules.{specs.Record.{whole_of}}
 use Rattle.program_logs.specs.declared.{Turn.Turn, Turn.TheVariants.{Part, End}}
-use Rattle.report_tally.specs.Tally.{Tally, tally_of}
+use Rattle.report_tally.specs.Tally.{tally_of}
 use Rattle.report_log.specs.{declared.Going.Going, Parts.PartTallied}
 use Rattle.report_turns.specs.{declared.Reporting.Reporting, Turned.{State, state_of, turned, refuses, Leaves, Ended}}
 

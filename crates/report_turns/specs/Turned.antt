@@ -6,11 +6,9 @@ use Rattle.rules.specs.Record.{Whole, whole_of}
 use Rattle.rules.specs.Log.{records_in, short_tail}
 use Rattle.rules.specs.Replay.{replay_start, whole_after}
 use Rattle.rules.specs.Report.{Report, fits, feed, fed_next}
-use Rattle.rules.specs.declared.Counts.{Counts}
 use Rattle.program_logs.specs.declared.{Turn.Turn, Turn.TheVariants.{Beginning, Part, End, Unreadable, Nothing}}
 use Rattle.replay_step.specs.Parts.{log_of, WholeRecords}
 use Rattle.report_tally.specs.Tally.{Tally, tally_of, tallied_tail}
-use Rattle.report_log.specs.declared.Going.{Going}
 use Rattle.report_log.specs.Parts.{tally_after, begun, fed_by}
 use Rattle.report_turns.specs.declared.Reporting.{Reporting}
 

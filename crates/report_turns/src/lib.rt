@@ -17,7 +17,7 @@ use report_tally::Counting;
 use rules::{ANSWER_ROOM, AREA_SIZE, Counts};
 
 // The counts that are kept, beside their grid; what is counted of this log; and whether the log was refused.
-#[derive(Drop)]
+#[derive(Clone, Copy)]
 pub struct Reporting {
     pub kept: Counts,
     pub going: Going,
@@ -31,7 +31,7 @@ fn begin(
     counts: Counts,
     area: &mut [u8; AREA_SIZE],
 ) -> Reporting
-    ensures { Leaves (begins (record { grid = kept.now; counts = counts })) false kept.now grid.exit.now area.new result }
+    ensures { Leaves (begins (record { grid = kept.now; counts = counts })) false kept.now grid.new area.new result }
 {
     *grid = *kept;
     *area = [0u8; AREA_SIZE];
