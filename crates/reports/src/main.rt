@@ -3,8 +3,9 @@
 #![tactic(auto)]
 
 use rules::Counts;
+use std::process::ExitCode;
 
-fn main() {
+fn main(rt: HostRuntime) -> ExitCode {
     let nothing = Counts {
         masks: 0,
         ticks: 0,
@@ -13,5 +14,5 @@ fn main() {
         bads: 0,
         shorts: 0,
     };
-    program_report::run([[0u32; 12]; 4], nothing);
+    program_report::run(&rt, [[0u32; 12]; 4], nothing)
 }

@@ -2,8 +2,9 @@
 #![tactic(auto)]
 
 use rules::Counts;
+use std::process::ExitCode;
 
-fn main() {
+fn main(rt: HostRuntime) -> ExitCode {
     let full = Counts {
         masks: 4294967285,
         ticks: 4294967285,
@@ -12,5 +13,5 @@ fn main() {
         bads: 4294967285,
         shorts: 4294967285,
     };
-    program_report::run([[4294967285u32; 12]; 4], full);
+    program_report::run(&rt, [[4294967285u32; 12]; 4], full)
 }
