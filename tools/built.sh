@@ -1,4 +1,4 @@
-# Sourced by tools/run and tools/library, which have root, the repository's folder, and say, for messages: `built` makes a file where that is due.
+# Sourced by tools/run, tools/programs and tools/library, which have root, the repository's folder, and say, for messages: `built` makes a file where that is due.
 # .ci/run takes `alone` for itself. One use builds at a time; the others wait, and go on with what it made.
 
 building=$root/target/.building     # what the holder of the lock builds, for those who wait
@@ -154,7 +154,7 @@ crates_under() {
 
 # Passes on what rt says, and tells each crate once, with a line when it is proved: of a crate that was proved before, rt says nothing.
 tell() {
-    told='' one='' count=0
+    told='' one=''
     while IFS= read -r line || [ -n "$line" ]; do
         printf '%s\n' "$line"
         case $line in
@@ -163,7 +163,7 @@ tell() {
         *) continue ;;
         esac
         case " $told " in *" $one "*) continue ;; esac
-        told="$told $one" count=$((count + 1))
+        told="$told $one"
         say "proved $one"
     done
 }
