@@ -136,7 +136,9 @@ def reached(crate):
 
 def stale(path, crate):
     """Whether something that the crate is built from is newer than what was built."""
-    sources = [source for name in reached(crate) for source in (ROOT / "crates" / name).rglob("*")]
+    # out/ is rt's own, and newer
+    sources = [source for name in reached(crate) for source in (ROOT / "crates" / name).rglob("*")
+               if "out" not in source.relative_to(ROOT / "crates" / name).parts]
     return max(source.stat().st_mtime for source in sources if source.exists()) > path.stat().st_mtime
 
 
