@@ -161,9 +161,6 @@ def main():
         new = "\n".join(respell_comment(line, spelling) for line in old.split("\n"))
         if new != old:
             open(p, "w").write(new)
-    with open("/tmp/respelled.txt", "w") as f:
-        for old, new in sorted(spelling.items()):
-            f.write(old + " " + new + "\n")
 
 
 main()

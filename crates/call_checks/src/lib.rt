@@ -26,6 +26,7 @@ fn fits(row: Row, request: &[u8]) -> bool
 }
 
 // Status 1, then the request's length.
+#[tactic(auto, unfolding(rules::specs::Refusals::verdict))]
 fn judge_table(revision: u64, index: u64, row: Row, request: &[u8]) -> Verdict
     requires { row ≡ row_of index }
     ensures { result ≡ verdict (served_check revision index ∷ length_check index request.now ∷ []) }
@@ -69,6 +70,7 @@ fn judge_gate(
 }
 
 // The function's own checks, which the area has no part in.
+#[tactic(auto, using(rules::proofs::page::Told::judged), unfolding(rules::specs::Refusals::verdict))]
 fn judge_function(
     d: Device,
     given: u32,

@@ -39,7 +39,7 @@ module _ (i n version : ℕ) (bytes : List ℕ) {number count own : ℕ}
     pub sum_decides : {word sum : ℕ} → fields ≡ true → word ≡ number_at 4 124 bytes → sum ≡ sum_of_words 31 bytes % 2 ^ 32
         → (word =? sum) ≡ good_record i n version bytes
     unfolding good_record
-    sum_decides good word_is sum_is_lem = rw (← number_is, ← count_is, ← own_is, ← word_is, ← sum_is_lem, good)
+    sum_decides good word_is sum_is = rw (← number_is, ← count_is, ← own_is, ← word_is, ← sum_is, good)
 
     -- the test of the version, as the code makes it of the three tests that it joins
     joined : (first zero? same : Bool) → ((first && not zero?) || (not first && same)) ≡ (if first then not zero? else same)

@@ -21,13 +21,13 @@ pub four_words : (at : ℕ) (bytes : List ℕ) {a b c d front back sum : ℕ}
     → c ≡ number_at 4 (at + 8) bytes → d ≡ number_at 4 (at + 12) bytes → back ≡ (c + d) % 2 ^ 32
     → sum ≡ (front + back) % 2 ^ 32 → sum ≡ sum_of_words 4 (drop at bytes) % 2 ^ 32
 unfolding sum_of_words
-four_words at bytes {a} {b} {c} {d} a_is b_is front_is c_is d_is back_is sum_is_lem =
+four_words at bytes {a} {b} {c} {d} a_is b_is front_is c_is d_is back_is sum_is =
     let eight : drop 4 (drop 4 (drop at bytes)) ≡ drop 8 (drop at bytes) = drop-drop 4 4 (drop at bytes) in
     let twelve : drop 4 (drop 8 (drop at bytes)) ≡ drop 12 (drop at bytes) = drop-drop 4 8 (drop at bytes) in
     let b_there = b_is ∙ sym (word_there at 4 bytes) in
     let c_there = c_is ∙ sym (ap (number_at 4 0) eight ∙ word_there at 8 bytes) in
     let d_there = d_is ∙ sym (ap (λ (l : List ℕ). number_at 4 0 (drop 4 l)) eight ∙ ap (number_at 4 0) twelve ∙ word_there at 12 bytes) in
-    sum_is_lem ∙ (λ i. (front_is i + back_is i) % 2 ^ 32) ∙ in_pairs a b c d
+    sum_is ∙ (λ i. (front_is i + back_is i) % 2 ^ 32) ∙ in_pairs a b c d
     ∙ (λ i. (a_is i + (b_there i + (c_there i + (d_there i + 0)))) % 2 ^ 32)
 
 -- a sum of words in two parts
@@ -46,12 +46,12 @@ parts_sum (suc first) second bytes =
 -- one turn more, where the sums wrap
 pub turn_more : (turn : ℕ) (bytes : List ℕ) {sum row next : ℕ} → sum ≡ sum_of_words (turn * 4) bytes % 2 ^ 32
     → row ≡ sum_of_words 4 (drop (turn * 16) bytes) % 2 ^ 32 → next ≡ (sum + row) % 2 ^ 32 → next ≡ sum_of_words ((turn + 1) * 4) bytes % 2 ^ 32
-turn_more turn bytes sum_is_lem row_is next_is =
+turn_more turn bytes sum_is row_is next_is =
     let words : (turn + 1) * 4 ≡ turn * 4 + 4 = omega arith in
     let place : turn * 16 ≡ turn * 4 * 4 = omega arith in
     let row_there = row_is ∙ ap (λ (at : ℕ). sum_of_words 4 (drop at bytes) % 2 ^ 32) place in
     let both = ap (λ (k : ℕ). sum_of_words k bytes) words ∙ parts_sum (turn * 4) 4 bytes in
-    omega (arith, sum_is_lem, row_there, next_is, both)
+    omega (arith, sum_is, row_there, next_is, both)
 
 -- two tests are the same where each says what the other does
 pub same_test : (a b x y : ℕ) → (a ≡ b → x ≡ y) → (x ≡ y → a ≡ b) → (a =? b) ≡ (x =? y)
