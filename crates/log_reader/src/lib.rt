@@ -81,7 +81,7 @@ pub fn next<'a>(r: LogReader<'a>) -> Step<'a>
     }
 }
 
-// A reader made at a place, and moved once: with plain parameters, so that whoever calls this needs no walk.
+// A reader made at a place, and moved once: with plain parameters, so that whoever calls this holds no reader.
 pub fn read_at(log: &[u8], place: usize) -> Stood
     ensures { result ≡ stood_at log.now place }
 {

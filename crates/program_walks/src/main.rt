@@ -1,4 +1,4 @@
-// Tries the two places that are proved by walks: a reader walks a log, and a tick changes a record in place. What it must write, in the file stdout, was
+// Tries two places whose forms document 01 names: a reader walks a log, and a tick changes a record in place. What it must write, in the file stdout, was
 // written by hand from documents 01 and 02.
 #![tactic(auto)]
 
