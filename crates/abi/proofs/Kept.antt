@@ -10,7 +10,7 @@ use Rattle.std.specs.Prelude.{if◌then◌else◌}
 use Rattle.rules.{specs.Tests.{◌=?◌}, specs.Numbers.answer_room, specs.Record.{possible_cabinet, device_of, other_of, with_device_at, Whole, whole_of, standing}}
 use Rattle.rules.{specs.Refusals.{Check, verdict, tick_checks, event_checks, status_length, one_attempt_more, record_left}, specs.Table.{row_of, served_check, length_check}}
 use Rattle.rules.{specs.Module.{call_in, checks, change}, specs.Cabinet.{Result, call_checks, outcome, happened, ticked, call_result}, specs.declared.Refusal.TheVariants.{R, Status}}
-use Rattle.rules.{specs.declared.Verdict.Verdict, specs.declared.Verdict.TheVariants.{Accepted, Refused}, specs.declared.Reply.Reply, specs.declared.Device.Device}
+use Rattle.rules.{specs.declared.Reply.Reply, specs.declared.Device.Device}
 use Rattle.rules.{specs.declared.Cabinet.Cabinet, proofs.page.Choice.if_both, proofs.page.Passed.past_rows}
 use Rattle.rules.{proofs.page.Past.{NoR, not_by_event, event_passed, call_passed}, proofs.page.Fitting.answers}
 use Rattle.bytes_numbers.proofs.Bytes.{Bytes}
@@ -18,6 +18,8 @@ use Rattle.cabinet.{specs.Promise.Promised, specs.declared.Outcome.Outcome}
 use Rattle.cabinet_bytes.{specs.Encoding.decode_cabinet, proofs.Refused.possible_whole, proofs.Placed.around}
 use Rattle.abi_keep.specs.Kept.{told, kept_by, kept, Keepable, KeepableNamed}
 use Rattle.abi.specs.Abi.{Called, Happened}
+use Rattle.rules.specs.Refusals.{Verdict}
+use Rattle.std.specs.Prelude.{Ok, Err}
 
 -- an answer with a status is no longer than the function's
 status_short : (status n : ℕ) → n ≤ 132 → status_length status n ≤ answer_room
@@ -55,14 +57,14 @@ module _ (bytes area : List ℕ) (known : Bytes bytes) (named revision index : �
       (call_passed w named answer (served_check revision index ∷ length_check index request ∷ checks (standing named w) (call_in revision index request)) v e n).1.0.sound
 
   replied : (v : Verdict) → verdict (call_checks w named revision index request answer) ≡ v → KeepableNamed (came v).reply (came v).after.cabinet named bytes
-  replied Accepted e =
+  replied (Ok tt) e =
       let h = (answers index).1 in
       let changed = (change (standing named w) (call_in revision index request)).device in
-      record { around = λ f. around named (came Accepted).after.cabinet bytes known (through Accepted e tt) (other_kept named changed c); short = omega arith }
-  replied (Refused (R number)) e = record { around = λ f. absurd (false≢true f); short = lit≤ tt }
-  replied (Refused (Status status ext)) e =
+      record { around = λ f. around named (came (Ok tt)).after.cabinet bytes known (through (Ok tt) e tt) (other_kept named changed c); short = omega arith }
+  replied (Err (R number)) e = record { around = λ f. absurd (false≢true f); short = lit≤ tt }
+  replied (Err (Status status ext)) e =
       record {
-        around = λ f. around named (record_left status named c) bytes known (through (Refused (Status status ext)) e tt) (left_kept status named c);
+        around = λ f. around named (record_left status named c) bytes known (through (Err (Status status ext)) e tt) (left_kept status named c);
         short = status_short status (row_of index).answer (answers index).1;
       }
 
@@ -85,11 +87,11 @@ module _ (bytes area : List ℕ) (known : Bytes bytes) (named : ℕ) (changed : 
   went v e n = (event_passed was named later v e (not_by_event was named v n)).0.sound
 
   happening : (v : Verdict) → verdict (event_checks was named ++ later) ≡ v → KeepableNamed (happened v next was).reply (happened v next was).after.cabinet named bytes
-  happening Accepted e =
-      record { around = λ f. around named next.cabinet bytes known (went Accepted e tt) (other_kept named changed (decode_cabinet bytes)); short = lit≤ tt }
-  happening (Refused (R number)) e = record { around = λ f. absurd (false≢true f); short = lit≤ tt }
-  happening (Refused (Status status ext)) e =
-      record { around = λ f. around named was.cabinet bytes known (went (Refused (Status status ext)) e tt) refl; short = lit≤ tt }
+  happening (Ok tt) e =
+      record { around = λ f. around named next.cabinet bytes known (went (Ok tt) e tt) (other_kept named changed (decode_cabinet bytes)); short = lit≤ tt }
+  happening (Err (R number)) e = record { around = λ f. absurd (false≢true f); short = lit≤ tt }
+  happening (Err (Status status ext)) e =
+      record { around = λ f. around named was.cabinet bytes known (went (Err (Status status ext)) e tt) refl; short = lit≤ tt }
 
   pub event_keepable : {o : Outcome} {area' answer' : List ℕ} → Promised (happened (verdict (event_checks was named ++ later)) next was) o area' answer'
       → KeepableNamed o.reply o.cabinet named bytes
@@ -108,9 +110,9 @@ module _ (bytes area : List ℕ) where
       possible_whole bytes (not-false (possible_cabinet (decode_cabinet bytes)) q.0.1.0)
 
   ticking : (v : Verdict) → verdict (tick_checks at) ≡ v → Keepable (happened v (ticked at) at).reply bytes
-  ticking Accepted e = record { sized = λ f. passed Accepted e tt; short = lit≤ tt }
-  ticking (Refused (R number)) e = record { sized = λ f. absurd (false≢true f); short = lit≤ tt }
-  ticking (Refused (Status status ext)) e = record { sized = λ f. passed (Refused (Status status ext)) e tt; short = lit≤ tt }
+  ticking (Ok tt) e = record { sized = λ f. passed (Ok tt) e tt; short = lit≤ tt }
+  ticking (Err (R number)) e = record { sized = λ f. absurd (false≢true f); short = lit≤ tt }
+  ticking (Err (Status status ext)) e = record { sized = λ f. passed (Err (Status status ext)) e tt; short = lit≤ tt }
 
   pub tick_keepable : {o : Outcome} {area' answer' : List ℕ} → Promised (happened (verdict (tick_checks at)) (ticked at) at) o area' answer' → Keepable o.reply bytes
   tick_keepable p = subst (λ (r : Reply). Keepable r bytes) (sym p.reply_is) (ticking _ refl)

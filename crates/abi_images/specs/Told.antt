@@ -2,15 +2,17 @@
 -- Assumes nothing.
 use Rattle.std.specs.Prelude.{List, ℕ, ℤ, pos, neg_ℤ}
 use Rattle.rules.specs.Made.{made_image, payload_of, making_of, output_made, reading_of, output_read}
-use Rattle.rules.specs.declared.{Making.Making, Making.TheVariants.{Made, VersionZero, PayloadOver128Records, OutputTooShort}}
-use Rattle.rules.specs.declared.{ReadingBack.ReadingBack, ReadingBack.TheVariants.{Read, NotGoodImage, OutputTooShort as ReadTooShort}}
+use Rattle.rules.specs.Made.{Making, ReadingBack}
+use Rattle.rules.specs.declared.NotMade.TheVariants.{VersionZero, PayloadOver128Records, OutputTooShort}
+use Rattle.rules.specs.declared.NotRead.TheVariants.{NotGoodImage, OutputTooShort as ReadTooShort}
+use Rattle.std.specs.Prelude.{Ok, Err}
 
 -- the bytes written; or -1 version 0, -2 payload over 128 records, -3 output too short
 abbrev pub told_made : Making → ℤ
-told_made (Made length) = pos length
-told_made VersionZero = neg_ℤ (pos 1)
-told_made PayloadOver128Records = neg_ℤ (pos 2)
-told_made OutputTooShort = neg_ℤ (pos 3)
+told_made (Ok length) = pos length
+told_made (Err VersionZero) = neg_ℤ (pos 1)
+told_made (Err PayloadOver128Records) = neg_ℤ (pos 2)
+told_made (Err OutputTooShort) = neg_ℤ (pos 3)
 
 abbrev pub make_number : (version : ℕ) (payload output : List ℕ) → ℤ
 make_number version payload output = told_made (making_of version payload output)
@@ -20,9 +22,9 @@ make_output version payload output = output_made (making_of version payload outp
 
 -- the bytes written; or -1 not a good image, -2 output too short
 abbrev pub told_read : ReadingBack → ℤ
-told_read (Read length) = pos length
-told_read NotGoodImage = neg_ℤ (pos 1)
-told_read ReadTooShort = neg_ℤ (pos 2)
+told_read (Ok length) = pos length
+told_read (Err NotGoodImage) = neg_ℤ (pos 1)
+told_read (Err ReadTooShort) = neg_ℤ (pos 2)
 
 abbrev pub read_number : (image output : List ℕ) → ℤ
 read_number image output = told_read (reading_of image output)

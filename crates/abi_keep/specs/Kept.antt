@@ -6,8 +6,10 @@ use Rattle.std.specs.Prelude.{if◌then◌else◌}
 use Rattle.rules.specs.Tests.{◌=?◌}
 use Rattle.rules.specs.Numbers.{answer_room}
 use Rattle.rules.specs.Cabinet.{Result}
-use Rattle.rules.specs.declared.{Refusal.TheVariants.{R, Status}, Verdict.Verdict, Verdict.TheVariants.{Accepted, Refused}, Reply.Reply, Cabinet.Cabinet}
+use Rattle.rules.specs.declared.{Refusal.TheVariants.{R, Status}, Reply.Reply, Cabinet.Cabinet}
 use Rattle.cabinet_bytes.specs.Encoding.{cabinet_size, encode_cabinet, Around}
+use Rattle.rules.specs.Refusals.{Verdict}
+use Rattle.std.specs.Prelude.{Ok, Err}
 
 -- R1 to R5 are -1 to -5
 abbrev pub refusal : ℕ → ℤ
@@ -15,18 +17,18 @@ refusal number = neg_ℤ (pos number)
 
 -- the number given: the answer's length, or an R number
 abbrev pub told_by : Verdict → (n : ℕ) → ℤ
-told_by Accepted n = pos n
-told_by (Refused (R number)) n = refusal number
-told_by (Refused (Status status ext)) n = pos n
+told_by (Ok tt) n = pos n
+told_by (Err (R number)) n = refusal number
+told_by (Err (Status status ext)) n = pos n
 
 abbrev pub told : Reply → ℤ
 told reply = told_by reply.verdict reply.length
 
 -- what is accepted writes the record; a refusal leaves it, but for status 11, which counts an attempt
 abbrev pub writes : Verdict → Bool
-writes Accepted = true
-writes (Refused (R number)) = false
-writes (Refused (Status status ext)) = status =? 11
+writes (Ok tt) = true
+writes (Err (R number)) = false
+writes (Err (Status status ext)) = status =? 11
 
 -- the record's bytes
 abbrev pub kept_by : Verdict → (new : Cabinet) (bytes : List ℕ) → List ℕ

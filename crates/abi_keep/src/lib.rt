@@ -3,35 +3,18 @@
 
 ghost use Rattle.std.specs.Prelude.{◌≡◌, ◌≤◌, pos};
 ghost use Rattle.rules.specs.Numbers.{answer_room};
-ghost use Rattle.abi_keep.specs.Kept.{refusal, told, writes, kept_by, Leaves, Keepable, KeepableNamed};
+ghost use Rattle.abi_keep.specs.Kept.{told, writes, kept_by, Leaves, Keepable, KeepableNamed};
 
 use rules::{Cabinet, Refusal, Reply, Verdict};
 
-fn refusal(number: u8) -> i32
-    ensures { result ≡ refusal number }
-{
-    -(number as i32)
-}
-
-fn length(n: usize) -> i32
-    requires { n ≤ answer_room }
-    ensures { result ≡ pos n }
-{
-    n as i32
-}
-
-// What the caller is told.
+// What the caller is told: the answer's length, or an R number negated.
 fn number(reply: Reply) -> i32
     requires { reply.length ≤ answer_room }
     ensures { result ≡ told reply }
 {
-    let verdict = reply.verdict;
-    match verdict {
-        Verdict::Accepted => length(reply.length),
-        Verdict::Refused(reason) => match reason {
-            Refusal::R { number } => refusal(number),
-            Refusal::Status { status: _, ext: _ } => length(reply.length),
-        },
+    match reply.verdict {
+        Err(Refusal::R { number }) => -i32::from(number),
+        _ => reply.length as i32,
     }
 }
 
@@ -40,11 +23,9 @@ fn writes(verdict: Verdict) -> bool
     ensures { result ≡ writes verdict }
 {
     match verdict {
-        Verdict::Accepted => true,
-        Verdict::Refused(reason) => match reason {
-            Refusal::R { number: _ } => false,
-            Refusal::Status { status, ext: _ } => status == 11,
-        },
+        Ok(()) => true,
+        Err(Refusal::R { number: _ }) => false,
+        Err(Refusal::Status { status, ext: _ }) => status == 11,
     }
 }
 
@@ -53,11 +34,8 @@ pub fn keep(reply: Reply, c: Cabinet, bytes: &mut [u8]) -> i32
     requires { Keepable reply bytes.old }
     ensures { Leaves (told reply) (kept_by reply.verdict c bytes.old) result bytes.new }
 {
-    let verdict = reply.verdict;
-    let changed = writes(verdict);
-    if changed {
+    if writes(reply.verdict) {
         cabinet_encode::put(c, bytes);
-        return number(reply);
     }
     number(reply)
 }
@@ -67,11 +45,8 @@ pub fn keep_named(reply: Reply, c: Cabinet, named: u64, bytes: &mut [u8]) -> i32
     requires { KeepableNamed reply c named bytes.old }
     ensures { Leaves (told reply) (kept_by reply.verdict c bytes.old) result bytes.new }
 {
-    let verdict = reply.verdict;
-    let changed = writes(verdict);
-    if changed {
+    if writes(reply.verdict) {
         cabinet_encode::put_named(c, named, bytes);
-        return number(reply);
     }
     number(reply)
 }

@@ -5,11 +5,10 @@ ghost use Rattle.std.specs.Prelude.{◌+◌, ◌*◌, ◌≤◌, ◌≡◌, leng
 
 // The hex digit of the lower four bits.
 fn hex_digit(n: u8) -> u8 {
-    let digit = n % 16;
-    if digit < 10 {
-        return 48 + digit;
+    match n % 16 {
+        digit @ 0..=9 => b'0' + digit,
+        digit => b'a' - 10 + digit,
     }
-    87 + digit
 }
 
 fn put_digit(out: &mut [u8], at: usize, n: u8) -> usize
@@ -20,21 +19,15 @@ fn put_digit(out: &mut [u8], at: usize, n: u8) -> usize
     at + 1
 }
 
-// The first `count` bytes in lower-case hex; nothing if there are not so many.
-pub fn put_hex(out: &mut [u8], at: usize, bytes: &[u8], count: usize) -> usize
+// The bytes in lower-case hex.
+pub fn put_hex(out: &mut [u8], at: usize, bytes: &[u8]) -> usize
     requires { at + 2 * length bytes.now ≤ length out.old }
     ensures { result ≤ at + 2 * length bytes.now }
 {
-    if bytes.len() < count {
-        return at;
-    }
     let mut to = at;
-    let mut i = 0;
-    while i < count {
-        let b = bytes[i];
-        to = put_digit(out, to, b / 16);
-        to = put_digit(out, to, b);
-        i += 1;
+    for byte in bytes {
+        to = put_digit(out, to, *byte / 16);
+        to = put_digit(out, to, *byte);
     }
     to
 }

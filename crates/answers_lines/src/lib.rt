@@ -4,17 +4,17 @@
 
 ghost use Rattle.std.specs.Prelude.{◌+◌, ◌*◌, ◌≤◌, length};
 
-use rules::{Cabinet, Device, Phase, Reading, Security, Transfer};
+use rules::{Cabinet, Device, Phase, Security, Thresholds, Transfer};
 
-// The line of a tail that is no whole record, if there is one.
-fn put_tail(out: &mut [u8], at: usize, number: u64, short: bool) -> usize
+// The line of a tail that is no whole record, if there is one, by its number.
+fn put_tail(out: &mut [u8], at: usize, tail: Option<u64>) -> usize
     requires { at + 40 ≤ length out.old }
     ensures { result ≤ at + 40 }
 {
-    if !short {
-        return at;
+    match tail {
+        Some(number) => text::put_field(out, at, number, b" short\n"),
+        None => at,
     }
-    text::put_field(out, at, number, b" short\n")
 }
 
 // The line of the phase.
@@ -27,67 +27,17 @@ fn put_phase(out: &mut [u8], at: usize, phase: Phase) -> usize
     text::put(out, end, b"\n")
 }
 
-// The contexts given out, which both modules share, and the numbers of a device record, in the order in which `put_device` names them.
-fn numbers(contexts: u32, d: Device) -> [u64; 14] {
-    let transfer = d.transfer;
-    let thresholds = d.thresholds;
-    let security = d.security;
-    [
-        contexts as u64,
-        transfer.current as u64,
-        transfer.received as u64,
-        transfer.ticks as u64,
-        transfer.running,
-        transfer.staged,
-        thresholds.enable as u64,
-        thresholds.spare as u64,
-        thresholds.media as u64,
-        thresholds.controller as u64,
-        security.enabled as u64,
-        security.locked as u64,
-        security.frozen as u64,
-        security.attempts as u64,
-    ]
-}
-
-// The first of the names, with the space after it, which is at most 16 bytes: how many there were.
-fn put_name(out: &mut [u8], at: usize, names: &[u8]) -> usize
-    requires { at + 16 ≤ length out.old }
-    ensures { result ≤ 16 }
+// A line of numbers: its name, and each number after a space.
+fn put_numbers(out: &mut [u8], at: usize, name: &[u8], numbers: &[u64]) -> usize
+    requires { (at + 21 * length numbers.now + 17 ≤ length out.old) × (length name.now ≤ 16) }
+    ensures { result ≤ at + 21 * length numbers.now + 17 }
 {
-    let mut n = 0;
-    while n < 16 {
-        if names.len() <= n {
-            return n;
-        }
-        let byte = names[n];
-        out[at + n] = byte;
-        n += 1;
-        if byte == 32 {
-            return n;
-        }
+    let mut to = text::put(out, at, name);
+    for number in numbers {
+        let spaced = text::put(out, to, b" ");
+        to = text::put_decimal(out, spaced, *number);
     }
-    n
-}
-
-// The line of each number, with its name.
-fn put_numbers(out: &mut [u8], at: usize, names: &[u8], numbers: &[u64]) -> usize
-    requires { (at + 40 * length numbers.now ≤ length out.old) × (length numbers.now ≤ 100) }
-    ensures { result ≤ at + 40 * length numbers.now }
-{
-    let mut to = at;
-    let mut from = 0;
-    let mut i = 0;
-    while i < numbers.len() {
-        if names.len() < from {
-            return to;
-        }
-        let n = put_name(out, to, &names[from..]);
-        to = text::put_field(out, to + n, numbers[i], b"\n");
-        from += n;
-        i += 1;
-    }
-    to
+    text::put(out, to, b"\n")
 }
 
 // A field that is bytes: its name, and two digits for each byte.
@@ -96,45 +46,42 @@ fn put_bytes(out: &mut [u8], at: usize, name: &[u8], bytes: &[u8]) -> usize
     ensures { result ≤ at + 2 * length bytes.now + 20 }
 {
     let named = text::put(out, at, name);
-    let end = answers_hex::put_hex(out, named, bytes, bytes.len());
+    let end = answers_hex::put_hex(out, named, bytes);
     text::put(out, end, b"\n")
 }
 
-fn put_passphrase(out: &mut [u8], at: usize, security: Security) -> usize
-    requires { at + 84 ≤ length out.old }
-    ensures { result ≤ at + 84 }
+// The lines of the transfer, but for its phase and its fault: before them the contexts given out, which both modules share.
+fn put_transfer(out: &mut [u8], at: usize, contexts: u32, transfer: Transfer) -> usize
+    requires { at + 228 ≤ length out.old }
+    ensures { result ≤ at + 228 }
 {
+    let at = put_numbers(out, at, b"contexts", &[contexts as u64]);
+    let at = put_numbers(out, at, b"current", &[transfer.current as u64]);
+    let at = put_numbers(out, at, b"received", &[transfer.received as u64]);
+    let at = put_numbers(out, at, b"ticks", &[transfer.ticks as u64]);
+    let at = put_numbers(out, at, b"running", &[transfer.running]);
+    put_numbers(out, at, b"staged", &[transfer.staged])
+}
+
+fn put_thresholds(out: &mut [u8], at: usize, thresholds: Thresholds) -> usize
+    requires { at + 152 ≤ length out.old }
+    ensures { result ≤ at + 152 }
+{
+    let at = put_numbers(out, at, b"enable", &[thresholds.enable as u64]);
+    let at = put_numbers(out, at, b"spare", &[thresholds.spare as u64]);
+    let at = put_numbers(out, at, b"media", &[thresholds.media as u64]);
+    put_numbers(out, at, b"controller", &[thresholds.controller as u64])
+}
+
+fn put_security(out: &mut [u8], at: usize, security: Security) -> usize
+    requires { at + 236 ≤ length out.old }
+    ensures { result ≤ at + 236 }
+{
+    let at = put_numbers(out, at, b"enabled", &[security.enabled as u64]);
+    let at = put_numbers(out, at, b"locked", &[security.locked as u64]);
+    let at = put_numbers(out, at, b"frozen", &[security.frozen as u64]);
+    let at = put_numbers(out, at, b"attempts", &[security.attempts as u64]);
     put_bytes(out, at, b"passphrase ", &security.passphrase)
-}
-
-// The line of the fault, two numbers.
-fn put_fault(out: &mut [u8], at: usize, transfer: Transfer) -> usize
-    requires { at + 50 ≤ length out.old }
-    ensures { result ≤ at + 50 }
-{
-    let named = text::put(out, at, b"fault ");
-    let spaced = text::put_field(out, named, transfer.reason as u64, b" ");
-    text::put_field(out, spaced, transfer.faulty as u64, b"\n")
-}
-
-// The line of the last reading, three numbers.
-fn put_reading(out: &mut [u8], at: usize, reading: Reading) -> usize
-    requires { at + 80 ≤ length out.old }
-    ensures { result ≤ at + 80 }
-{
-    let named = text::put(out, at, b"reading ");
-    let spared = text::put_field(out, named, reading.spare as u64, b" ");
-    let spaced = text::put_field(out, spared, reading.media as u64, b" ");
-    text::put_field(out, spaced, reading.controller as u64, b"\n")
-}
-
-// The line of the trips.
-fn put_trips(out: &mut [u8], at: usize, trips: u8) -> usize
-    requires { at + 40 ≤ length out.old }
-    ensures { result ≤ at + 40 }
-{
-    let named = text::put(out, at, b"trips ");
-    text::put_field(out, named, trips as u64, b"\n")
 }
 
 // The lines of a device record, with the contexts given out.
@@ -143,19 +90,19 @@ fn put_device(out: &mut [u8], at: usize, contexts: u32, d: Device) -> usize
     ensures { result ≤ at + 860 }
 {
     let transfer = d.transfer;
-    let phase = transfer.phase;
-    let numbers = numbers(contexts, d);
-    let at = put_phase(out, at, phase);
-    let at = put_numbers(
-        out,
-        at,
-        b"contexts current received ticks running staged enable spare media controller enabled locked frozen attempts ",
-        &numbers,
-    );
-    let at = put_passphrase(out, at, d.security);
-    let at = put_fault(out, at, transfer);
-    let at = put_reading(out, at, d.reading);
-    put_trips(out, at, d.trips)
+    let fault = [transfer.reason as u64, transfer.faulty as u64];
+    let reading = [
+        d.reading.spare as u64,
+        d.reading.media as u64,
+        d.reading.controller as u64,
+    ];
+    let at = put_phase(out, at, transfer.phase);
+    let at = put_transfer(out, at, contexts, transfer);
+    let at = put_thresholds(out, at, d.thresholds);
+    let at = put_security(out, at, d.security);
+    let at = put_numbers(out, at, b"fault", &fault);
+    let at = put_numbers(out, at, b"reading", &reading);
+    put_numbers(out, at, b"trips", &[d.trips as u64])
 }
 
 // The line of a module's number, and its lines.
@@ -163,17 +110,16 @@ fn put_module(out: &mut [u8], at: usize, named: u64, contexts: u32, d: Device) -
     requires { at + 900 ≤ length out.old }
     ensures { result ≤ at + 900 }
 {
-    let at = text::put(out, at, b"module ");
-    let at = text::put_field(out, at, named, b"\n");
+    let at = put_numbers(out, at, b"module", &[named]);
     put_device(out, at, contexts, d)
 }
 
 // What follows the records' lines: the tail's line, and the end state.
-pub fn put_end(out: &mut [u8], number: u64, short: bool, c: Cabinet, area: &[u8]) -> usize
+pub fn put_end(out: &mut [u8], tail: Option<u64>, c: Cabinet, area: &[u8]) -> usize
     requires { 2 * length area.now + 1860 ≤ length out.old }
     ensures { result ≤ 2 * length area.now + 1860 }
 {
-    let at = put_tail(out, 0, number, short);
+    let at = put_tail(out, 0, tail);
     let at = put_module(out, at, 0, c.contexts, c.first);
     let at = put_module(out, at, 1, c.contexts, c.second);
     put_bytes(out, at, b"area ", area)

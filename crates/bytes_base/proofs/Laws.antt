@@ -1,10 +1,11 @@
--- Laws of the tests on lists, one for each way that a loop goes on.
-use mathlib.Core.{Path.{◌≡◌, refl, sym, ◌∙◌, ap}, Bool.{Bool, true, false, ◌&&◌, false≢true}, List.{List, [], ◌∷◌, ◌++◌}}
-use Prim.Native.Nat.{ℕ, suc, ◌≤◌, ◌<◌, ◌+◌}
-use native.Mathlib.{Nat.{le_of_lt, zero-add}, Numerals.add-one}
+-- Laws of the tests on lists: what a fold over all of a list comes to.
+use mathlib.Core.{Path.{◌≡◌, refl, sym, ◌∙◌, ap}, Bool.{Bool, true, false, ◌&&◌, false≢true}, List.{List, [], ◌∷◌}}
+use Prim.Native.Nat.{ℕ}
+use native.Mathlib.Omega.{arith}
 use borrow.Author.Tests.{eq-eqb, ne_eqb, eqb-true, eqb-false}
-use lib.{Dec.eqb, ListN.{length, get_or, take, drop, set, drop_of_length-le}, Seq.{drop-cons, take-suc, append_snoc, set_at, length-take-le, take-length}}
-use Rattle.rules.specs.Bytes.{zeros?, same?, splice}
+use lib.{Dec.eqb, ListN.length}
+use Rattle.std.specs.List.{fold, zip}
+use Rattle.rules.specs.Bytes.{zeros?, same?}
 
 and_assoc : (a b c : Bool) → ((a && b) && c) ≡ (a && (b && c))
 and_assoc true b c = refl
@@ -14,27 +15,25 @@ and_true : (a : Bool) → (a && true) ≡ a
 and_true true = refl
 and_true false = refl
 
--- a test of every byte, at place i, with what it has come to so far: on, at the end
-module _ (s : List ℕ) (i : ℕ) (so_far : Bool) (whole : (so_far && zeros? (drop i s)) ≡ zeros? s) where
-  pub zeros_on : i < length s → ((so_far && eqb (get_or s i 0) 0) && zeros? (drop (i + 1) s)) ≡ zeros? s
-  unfolding zeros?
-  zeros_on h = and_assoc so_far (eqb (get_or s i 0) 0) (zeros? (drop (i + 1) s)) ∙ sym (rw (add-one, drop-cons s i 0 h) refl) ∙ whole
+-- what a fold over every byte comes to, from what it had come to before
+zeros_folded : (so_far : Bool) (s : List ℕ) → fold (λ zero byte. zero && eqb byte 0) so_far s ≡ (so_far && zeros? s)
+unfolding zeros?
+zeros_folded so_far [] = sym (and_true so_far)
+zeros_folded so_far (x ∷ xs) = zeros_folded (so_far && eqb x 0) xs ∙ and_assoc so_far (eqb x 0) (zeros? xs)
 
-  pub zeros_end : length s ≤ i → so_far ≡ zeros? s
-  unfolding zeros?
-  zeros_end h = sym (and_true so_far) ∙ sym (rw (drop_of_length-le s h) refl) ∙ whole
+pub zeros_fold : (s : List ℕ) → fold (λ zero byte. zero && eqb byte 0) true s ≡ zeros? s
+zeros_fold s = zeros_folded true s
 
--- a test of every two bytes, likewise
-module _ (a b : List ℕ) (i : ℕ) (so_far : Bool) (whole : (so_far && same? (drop i a) (drop i b)) ≡ same? a b) where
-  pub same_on : i < length a → i < length b → ((so_far && eqb (get_or a i 0) (get_or b i 0)) && same? (drop (i + 1) a) (drop (i + 1) b)) ≡ same? a b
-  unfolding same?
-  same_on h k =
-      and_assoc so_far (eqb (get_or a i 0) (get_or b i 0)) (same? (drop (i + 1) a) (drop (i + 1) b))
-      ∙ sym (rw (add-one, drop-cons a i 0 h, drop-cons b i 0 k) refl) ∙ whole
+-- a fold over every two bytes, likewise
+same_folded : (so_far : Bool) (a b : List ℕ) → length a ≡ length b → fold (λ equal pair. equal && eqb pair.0 pair.1) so_far (zip a b) ≡ (so_far && same? a b)
+unfolding same?
+same_folded so_far [] [] e = sym (and_true so_far)
+same_folded so_far [] (y ∷ ys) e = absurd (omega arith)
+same_folded so_far (x ∷ xs) [] e = absurd (omega arith)
+same_folded so_far (x ∷ xs) (y ∷ ys) e = same_folded (so_far && eqb x y) xs ys (omega arith) ∙ and_assoc so_far (eqb x y) (same? xs ys)
 
-  pub same_end : length a ≤ i → length b ≤ i → so_far ≡ same? a b
-  unfolding same?
-  same_end h k = sym (and_true so_far) ∙ sym (rw (drop_of_length-le a h, drop_of_length-le b k) refl) ∙ whole
+pub same_fold : (a b : List ℕ) → length a ≡ length b → fold (λ equal pair. equal && eqb pair.0 pair.1) true (zip a b) ≡ same? a b
+same_fold a b e = same_folded true a b e
 
 same_true : (a b : List ℕ) → same? a b ≡ true → a ≡ b
 unfolding same?
@@ -69,13 +68,3 @@ same_swap [] [] = refl
 same_swap [] (y ∷ ys) = refl
 same_swap (x ∷ xs) [] = refl
 same_swap (x ∷ xs) (y ∷ ys) = λ i. eqb_swap x y i && same_swap xs ys i
-
--- a copy to the front, at place i
-pub copy_on : (to from : List ℕ) (i : ℕ) → i < length from → i < length to
-    → set (take i from ++ drop i to) i (get_or from i 0) ≡ take (i + 1) from ++ drop (i + 1) to
-copy_on to from i h k =
-    rw (add-one, drop-cons to i 0 k, take-suc from i 0 h, append_snoc)
-    (set_at (take i from) (get_or to i 0) (drop (suc i) to) (get_or from i 0) i (length-take-le i from (le_of_lt h)))
-
-pub copy_end : (to from : List ℕ) (i : ℕ) → i ≡ length from → take i from ++ drop i to ≡ splice 0 from to
-copy_end to from i e = rw (e, take-length, zero-add)

@@ -1,49 +1,26 @@
 // Bytes: tests on them, copies of them.
 #![tactic(auto)]
 
-ghost use Rattle.std.specs.Prelude.{◌≡◌, ◌≤◌, ◌+◌, length};
-ghost use Rattle.rules.specs.Bytes.{zeros?, same?, le, splice};
+ghost use Rattle.std.specs.Prelude.{◌≡◌, ℕ, ◌≤◌, ◌+◌, length};
+ghost use Rattle.rules.specs.Bytes.{zeros?, same?, le, zeros, splice};
 
-// All bytes are zero. No byte ends the loop early, so that many are tested at once.
-pub fn all_zero(s: &[u8]) -> bool
-    ensures { result ≡ zeros? s.now }
+// All bytes are zero. No byte ends the fold early, so that many are tested at once.
+pub fn all_zero(bytes: &[u8]) -> bool
+    ensures { result ≡ zeros? bytes.now }
 {
-    let mut zero = true;
-    let mut i = 0;
-    while i < s.len() {
-        zero = zero & (s[i] == 0);
-        i += 1;
-    }
-    zero
+    bytes.iter().fold(true, |zero, byte| zero & (*byte == 0))
 }
 
-// The two slices hold the same bytes. No byte ends the loop early, so that the time it takes tells nothing of a passphrase.
+// The two slices hold the same bytes. No byte ends the fold early, so that the time it takes tells nothing of a passphrase.
 pub fn same(a: &[u8], b: &[u8]) -> bool
     ensures { result ≡ same? a.now b.now }
 {
     if a.len() != b.len() {
         return false;
     }
-    let mut equal = true;
-    let mut i = 0;
-    while i < a.len() {
-        equal = equal & (a[i] == b[i]);
-        i += 1;
-    }
-    equal
-}
-
-// Fills the slice with the bytes of n, lowest first.
-fn put(out: &mut [u8], n: u64)
-    ensures { out.new ≡ le (length out.old) n }
-{
-    let mut m = n;
-    let mut i = 0;
-    while i < out.len() {
-        out[i] = (m % 256) as u8;
-        m = m / 256;
-        i += 1;
-    }
+    a.iter()
+        .zip(b)
+        .fold(true, |equal, (x, y)| equal & (*x == *y))
 }
 
 // Copies the bytes of `from` to the front of `to`.
@@ -51,20 +28,15 @@ pub fn copy(to: &mut [u8], from: &[u8])
     requires { length from.now ≤ length to.old }
     ensures { to.new ≡ splice 0 from.now to.old }
 {
-    let mut i = 0;
-    while i < from.len() {
-        to[i] = from[i];
-        i += 1;
-    }
+    to[..from.len()].copy_from_slice(from);
 }
 
-// Writes the k bytes of n at a place.
-pub fn put_at(out: &mut [u8], at: usize, k: usize, n: u64)
-    requires { at + k ≤ length out.old }
-    ensures { out.new ≡ splice at (le k n) out.old }
+// Writes so many zeros at a place.
+pub fn put_zeros(out: &mut [u8], at: usize, count: usize)
+    requires { at + count ≤ length out.old }
+    ensures { out.new ≡ splice at (zeros count) out.old }
 {
-    let e = at + k;
-    put(&mut out[at..e], n);
+    out[at..at + count].fill(0);
 }
 
 // Writes the bytes of `from` at a place.
@@ -72,6 +44,74 @@ pub fn copy_at(out: &mut [u8], at: usize, from: &[u8])
     requires { at + length from.now ≤ length out.old }
     ensures { out.new ≡ splice at from.now out.old }
 {
-    let e = at + from.len();
-    copy(&mut out[at..e], from);
+    out[at..at + from.len()].copy_from_slice(from);
+}
+
+// A number that is written as so many bytes, lowest first. Two numbers of one value are the same.
+pub trait ToBytes {
+    ghost width: { ℕ };
+
+    ghost value: { Self → ℕ };
+
+    fn put(self, out: &mut [u8], at: usize)
+        requires { at + width ≤ length out.old }
+        ensures { out.new ≡ splice at (le width (value self)) out.old };
+
+    ghost same: { (n other : Self) → value n ≡ value other → n ≡ other };
+}
+
+// Writes a number's bytes at a place.
+fn put_bytes<const WIDTH: usize>(bytes: &[u8; WIDTH], out: &mut [u8], at: usize)
+    requires { at + WIDTH ≤ length out.old }
+    ensures { out.new ≡ splice at bytes.now out.old }
+{
+    out[at..at + WIDTH].copy_from_slice(bytes);
+}
+
+impl ToBytes for u8 {
+    ghost width = { 1 };
+
+    ghost value = { λ n. n };
+
+    ghost same = { λ n other e. e };
+
+    fn put(self, out: &mut [u8], at: usize) {
+        put_bytes(&self.to_le_bytes(), out, at);
+    }
+}
+
+impl ToBytes for u16 {
+    ghost width = { 2 };
+
+    ghost value = { λ n. n };
+
+    ghost same = { λ n other e. e };
+
+    fn put(self, out: &mut [u8], at: usize) {
+        put_bytes(&self.to_le_bytes(), out, at);
+    }
+}
+
+impl ToBytes for u32 {
+    ghost width = { 4 };
+
+    ghost value = { λ n. n };
+
+    ghost same = { λ n other e. e };
+
+    fn put(self, out: &mut [u8], at: usize) {
+        put_bytes(&self.to_le_bytes(), out, at);
+    }
+}
+
+impl ToBytes for u64 {
+    ghost width = { 8 };
+
+    ghost value = { λ n. n };
+
+    ghost same = { λ n other e. e };
+
+    fn put(self, out: &mut [u8], at: usize) {
+        put_bytes(&self.to_le_bytes(), out, at);
+    }
 }

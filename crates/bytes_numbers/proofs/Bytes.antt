@@ -1,11 +1,9 @@
--- Lists of bytes, and one byte as a number.
+-- Lists of bytes.
 -- Assumes nothing.
-use mathlib.Core.{Path.{◌≡◌, sym}, List.{List, [], ◌∷◌}}
-use Prim.Native.Nat.{ℕ, zero, suc, ◌<◌, ◌+◌}
-use native.Mathlib.Omega.{arith}
-use lib.{Dec.lit<, ListN.{length, get_or, take, drop}, Seq.{drop-cons, get_or-drop}}
+use mathlib.Core.{List.{List, [], ◌∷◌}}
+use Prim.Native.Nat.{ℕ, zero, suc, ◌+◌}
+use lib.{Dec.lit<, ListN.{get_or, take, drop}, Seq.{get_or-drop}}
 use mir.{Syntax.w8, Val.Fits}
-use Rattle.rules.specs.Bytes.{number_at}
 
 -- every element is below 256
 abbrev pub Bytes : List ℕ → Type 0
@@ -19,7 +17,3 @@ bytes_take zero l h i = record { fits = lit< tt }
 bytes_take (suc k) [] h i = record { fits = lit< tt }
 bytes_take (suc k) (x ∷ xs) h zero = h 0
 bytes_take (suc k) (x ∷ xs) h (suc i) = bytes_take k xs (λ (j : ℕ). h (suc j)) i
-
--- one byte is a number by itself
-pub byte_at : (s : List ℕ) (at : ℕ) → at < length s → get_or s at 0 ≡ number_at 1 at s
-byte_at s at h = sym (rw (drop-cons s at 0 h) (omega arith))

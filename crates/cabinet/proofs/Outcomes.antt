@@ -7,10 +7,12 @@ use Rattle.std.specs.Prelude.{if◌then◌else◌}
 use Rattle.rules.{specs.Tests.{◌=?◌}, specs.Bytes.zeros, specs.Numbers.answer_room, specs.Record.{Whole, whole_of, standing}}
 use Rattle.rules.{specs.Refusals.{Check, verdict, status_bytes, status_length, answer_after, record_left}, specs.Table.{row_of, served_check, length_check}}
 use Rattle.rules.{specs.Module.{call_of, call_in, checks}, specs.Cabinet.{Result, gate_checks, call_checks, outcome, happened, call_result}}
-use Rattle.rules.{specs.declared.Refusal.Refusal, specs.declared.Refusal.TheVariants.{R, Status}, specs.declared.Verdict.Verdict}
-use Rattle.rules.{specs.declared.Verdict.TheVariants.{Accepted, Refused}, specs.declared.Row.Row, specs.declared.Cabinet.Cabinet, proofs.page.Passed.both_accepted}
+use Rattle.rules.{specs.declared.Refusal.Refusal, specs.declared.Refusal.TheVariants.{R, Status}}
+use Rattle.rules.{specs.declared.Row.Row, specs.declared.Cabinet.Cabinet, proofs.page.Passed.both_accepted}
 use Rattle.rules.{proofs.page.Past.{NoR, EventPassed, call_passed}, proofs.page.Fitting.{Fitting, gate_fits, answers}}
 use Rattle.cabinet.specs.{declared.Outcome.Outcome, Promise.{Promised, Served}}
+use Rattle.rules.specs.Refusals.{Verdict}
+use Rattle.std.specs.Prelude.{Ok, Err}
 
 abbrev given : Cabinet → Verdict → ℕ → Outcome
 given cabinet v n = record { cabinet = cabinet; reply = record { verdict = v; length = n } }
@@ -34,11 +36,11 @@ module _ (w : Whole) (named revision index : ℕ) (request answer : List ℕ) (r
       (subst (λ (r : Row). Promised (outcome settles w named (call_of r.function revision request) r.answer answer) (given cabinet settles n) area' answer') looked_up p))
 
   pub as_accepted : {o : Outcome} {v : Verdict} {cabinet : Cabinet} {area' answer' : List ℕ}
-      → v ≡ judged → v ≡ Accepted → o ≡ given cabinet v row.answer
+      → v ≡ judged → v ≡ Ok tt → o ≡ given cabinet v row.answer
       → Served w named (call_of row.function revision request) answer (whole_of cabinet area') answer'
       → Promised result o area' answer'
   as_accepted j e k s =
-      settled Accepted j e k
+      settled (Ok tt) j e k
       (record {
         reply_is = refl;
         cabinet_is = ap (λ (x : Whole). x.cabinet) s.after_is;
@@ -46,19 +48,19 @@ module _ (w : Whole) (named revision index : ℕ) (request answer : List ℕ) (r
         answer_is = s.answer_is;
       })
 
-  pub as_R : {o : Outcome} {v : Verdict} (number : ℕ) → v ≡ judged → v ≡ Refused (R number) → o ≡ given w.cabinet v 0 → Promised result o w.area answer
+  pub as_R : {o : Outcome} {v : Verdict} (number : ℕ) → v ≡ judged → v ≡ Err (R number) → o ≡ given w.cabinet v 0 → Promised result o w.area answer
   as_R number j e k =
-      settled (Refused (R number)) j e k (record { reply_is = refl; cabinet_is = refl; area_is = refl; answer_is = refl })
+      settled (Err (R number)) j e k (record { reply_is = refl; cabinet_is = refl; area_is = refl; answer_is = refl })
 
   pub as_status : {o : Outcome} {v : Verdict} {cabinet : Cabinet} {answer' : List ℕ} (status ext n : ℕ)
-      → v ≡ judged → v ≡ Refused (Status status ext) → o ≡ given cabinet v n → n ≡ status_length status row.answer
+      → v ≡ judged → v ≡ Err (Status status ext) → o ≡ given cabinet v n → n ≡ status_length status row.answer
       → cabinet ≡ record_left status named w.cabinet
       → answer' ≡ answer_after (status_bytes status ext ++ zeros (n - 4)) answer
       → Promised result o w.area answer'
   as_status status ext n j e k l f g =
-      settled (Refused (Status status ext)) j e k
+      settled (Err (Status status ext)) j e k
       (record {
-        reply_is = ap (λ (x : ℕ). record { verdict = Refused (Status status ext); length = x }) l;
+        reply_is = ap (λ (x : ℕ). record { verdict = Err (Status status ext); length = x }) l;
         cabinet_is = f;
         area_is = refl;
         answer_is = g ∙ ap (λ (x : ℕ). answer_after (status_bytes status ext ++ zeros (x - 4)) answer) l;
@@ -72,12 +74,12 @@ module _ (w : Whole) (named revision index : ℕ) (request answer : List ℕ) (r
   event_checks_law v e n = (call_passed w named answer (served_check revision index ∷ length_check index request ∷ checks (standing named w) (call_in revision index request)) v e n).1.0
 
   -- an accepted call: its request has the bytes that it reads, and its own checks have passed
-  pub fits : judged ≡ Accepted → Fitting row.function (length request)
+  pub fits : judged ≡ Ok tt → Fitting row.function (length request)
   fits e =
       subst (λ (r : Row). Fitting r.function (length request)) (sym looked_up)
       (gate_fits w named revision index request answer (both_accepted (gate_checks w named revision index request answer) _ e).0)
 
-  pub own_checks : judged ≡ Accepted → verdict (checks (standing named w) (call_of row.function revision request)) ≡ Accepted
+  pub own_checks : judged ≡ Ok tt → verdict (checks (standing named w) (call_of row.function revision request)) ≡ Ok tt
   own_checks e =
       ap (λ (r : Row). verdict (checks (standing named w) (call_of r.function revision request))) looked_up
       ∙ (both_accepted (gate_checks w named revision index request answer) (checks (standing named w) (call_in revision index request)) e).1
@@ -103,11 +105,11 @@ module _ (w : Whole) (changed : Cabinet) (rows : List Check) where
       subst (λ (x : Outcome). Promised came x w.area []) (sym (k ∙ ap (λ (x : Verdict). given cabinet x 0) e))
       (subst (λ (x : Verdict). Promised (happened x (whole_of changed w.area) w) (given cabinet settles 0) w.area []) (sym e ∙ j) p)
 
-  pub as_changed : {o : Outcome} {v : Verdict} {cabinet : Cabinet} → v ≡ verdict rows → v ≡ Accepted → o ≡ given cabinet v 0 → cabinet ≡ changed
+  pub as_changed : {o : Outcome} {v : Verdict} {cabinet : Cabinet} → v ≡ verdict rows → v ≡ Ok tt → o ≡ given cabinet v 0 → cabinet ≡ changed
       → Promised came o w.area []
-  as_changed j e k f = happens Accepted j e k (record { reply_is = refl; cabinet_is = f; area_is = refl; answer_is = refl })
+  as_changed j e k f = happens (Ok tt) j e k (record { reply_is = refl; cabinet_is = f; area_is = refl; answer_is = refl })
 
-  pub as_left : {o : Outcome} {v : Verdict} (refusal : Refusal) → v ≡ verdict rows → v ≡ Refused refusal → o ≡ given w.cabinet v 0
+  pub as_left : {o : Outcome} {v : Verdict} (refusal : Refusal) → v ≡ verdict rows → v ≡ Err refusal → o ≡ given w.cabinet v 0
       → Promised came o w.area []
   as_left refusal j e k =
-      happens (Refused refusal) j e k (record { reply_is = refl; cabinet_is = refl; area_is = refl; answer_is = refl })
+      happens (Err refusal) j e k (record { reply_is = refl; cabinet_is = refl; area_is = refl; answer_is = refl })

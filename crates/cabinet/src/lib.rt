@@ -1,18 +1,18 @@
 // The cabinet: one call, tick, power cycle or health reading on its record and a lent staging area. These are the entry points; none asks anything of its caller.
 #![tactic(auto)]
 
-ghost use Rattle.std.specs.Prelude.{◌≡◌, [], ◌∷◌, ◌≤◌, length};
+ghost use Rattle.std.specs.Prelude.{◌≡◌, Ok, [], ◌≤◌, length};
 ghost use Rattle.rules.specs.Numbers.{area_size, answer_room};
 ghost use Rattle.rules.specs.With.{◌with_contexts◌};
 ghost use Rattle.rules.specs.Record.{fresh_cabinet, whole_of, with_device_at, standing};
-ghost use Rattle.rules.specs.Refusals.{verdict, R4Check};
+ghost use Rattle.rules.specs.Refusals.{verdict};
 ghost use Rattle.rules.specs.Module.{call_of, checks, device_ticked, device_powered, device_keeping};
 ghost use Rattle.rules.specs.Cabinet.{call_result, tick_result, power_result, reading_checks, reading_result};
-ghost use Rattle.rules.proofs.page.Fitting.{Fitting};
 ghost use Rattle.cabinet.specs.Promise.{Promised, Served};
 
 use call_changes::Changed;
-use rules::{Cabinet, Device, Function, Reading, Refusal, Reply, Verdict};
+use call_table::{Asked, Call};
+use rules::{Cabinet, Device, Reading, Refusal, Reply, Verdict};
 
 // What comes back by value: the new record, and the reply.
 #[derive(Drop)]
@@ -31,30 +31,21 @@ pub fn fresh() -> Cabinet
 fn in_place(c: Cabinet, named: u64, changed: Changed) -> Cabinet
     ensures { result ≡ (with_device_at named changed.device c with_contexts changed.given) }
 {
-    let placed = cabinet_record::with_device(c, named, changed.device);
     Cabinet {
         contexts: changed.given,
-        ..placed
+        ..cabinet_record::with_device(c, named, changed.device)
     }
 }
 
 // An accepted call: the answer of its module, and then the change.
-fn serve(
-    c: Cabinet,
-    area: &mut [u8],
-    named: u64,
-    function: Function,
-    revision: u64,
-    request: &[u8],
-    answer: &mut [u8],
-) -> Cabinet
-    requires answer_room_in_bounds { (answer_room ≤ length answer.old) × (length area.old ≡ area_size) × Fitting function (length request.now) }
-    requires request_value { verdict (checks (standing named (whole_of c area.old)) (call_of function revision request.now)) ≡ Verdict.Accepted }
-    ensures { Served (whole_of c area.old) named (call_of function revision request.now) answer.old (whole_of result area.new) answer.new }
+fn serve(c: Cabinet, area: &mut [u8], named: u64, asked: &Asked, answer: &mut [u8]) -> Cabinet
+    requires answer_room_in_bounds { (answer_room ≤ length answer.old) × (length area.old ≡ area_size) }
+    requires request_value { verdict (checks (standing named (whole_of c area.old)) (call_of asked.now.function asked.now.revision asked.now.request.now)) ≡ Ok tt }
+    ensures { Served (whole_of c area.old) named (call_of asked.now.function asked.now.revision asked.now.request.now) answer.old (whole_of result area.new) answer.new }
 {
     let own = cabinet_record::own(c, named);
-    call_answers::put_accepted(own, c.contexts, function, revision, answer);
-    let changed = call_changes::change(own, c.contexts, area, function, revision, request);
+    call_answers::put_accepted(own, c.contexts, asked.function, asked.revision, answer);
+    let changed = call_changes::change(own, c.contexts, area, asked);
     in_place(c, named, changed)
 }
 
@@ -71,14 +62,25 @@ pub fn call(
     ensures { Promised (call_result (whole_of c area.old) named revision function request.now answer.old) result area.new answer.new }
 {
     let row = call_table::look_up(function);
-    let verdict = call_checks::judge(c, area, named, revision, function, row, request, answer);
+    let made = Call {
+        named,
+        revision,
+        index: function,
+        row,
+        request,
+    };
+    let verdict = call_checks::judge(c, area, &made, answer);
     match verdict {
-        Verdict::Accepted => {
-            let served = row.function;
-            let after = serve(c, area, named, served, revision, request, answer);
+        Ok(()) => {
+            let asked = Asked {
+                function: row.function,
+                revision,
+                request,
+            };
+            let after = serve(c, area, named, &asked, answer);
             result(after, verdict, row.answer)
         }
-        Verdict::Refused(refusal) => match refusal {
+        Err(refusal) => match refusal {
             Refusal::R { number: _ } => result(c, verdict, 0),
             Refusal::Status { status, ext } => {
                 let length = call_answers::status_length(status, row.answer);
@@ -103,8 +105,10 @@ fn ticked(d: Device, area: &[u8]) -> Device
     requires { d.transfer.received ≤ length area.now }
     ensures { result ≡ device_ticked area.now d }
 {
-    let transfer = transfer_time::tick(d.transfer, area);
-    Device { transfer, ..d }
+    Device {
+        transfer: transfer_time::tick(d.transfer, area),
+        ..d
+    }
 }
 
 // It reaches both modules.
@@ -113,13 +117,15 @@ pub fn tick(c: Cabinet, area: &[u8]) -> Outcome
 {
     let verdict = cabinet_record::judge_tick(c, area);
     match verdict {
-        Verdict::Accepted => {
-            let first = ticked(c.first, area);
-            let second = ticked(c.second, area);
-            let both = Cabinet { first, second, ..c };
+        Ok(()) => {
+            let both = Cabinet {
+                first: ticked(c.first, area),
+                second: ticked(c.second, area),
+                ..c
+            };
             result(both, verdict, 0)
         }
-        Verdict::Refused(_) => result(c, verdict, 0),
+        Err(_) => result(c, verdict, 0),
     }
 }
 
@@ -127,11 +133,9 @@ pub fn tick(c: Cabinet, area: &[u8]) -> Outcome
 fn powered(d: Device) -> Device
     ensures { result ≡ device_powered d }
 {
-    let transfer = transfer_time::power(d.transfer);
-    let security = security_changes::power(d.security);
     Device {
-        transfer,
-        security,
+        transfer: transfer_time::power(d.transfer),
+        security: security_changes::power(d.security),
         ..d
     }
 }
@@ -142,35 +146,21 @@ pub fn power(c: Cabinet, area: &[u8], named: u64) -> Outcome
 {
     let verdict = cabinet_record::judge_event(c, area, named);
     match verdict {
-        Verdict::Accepted => {
+        Ok(()) => {
             let started = powered(cabinet_record::own(c, named));
             result(cabinet_record::with_device(c, named, started), verdict, 0)
         }
-        Verdict::Refused(_) => result(c, verdict, 0),
+        Err(_) => result(c, verdict, 0),
     }
-}
-
-// R4.
-#[tactic(auto, unfolding(rules::specs::Refusals::verdict))]
-fn judge_new(new: Reading) -> Verdict
-    ensures { result ≡ verdict (R4Check new ∷ []) }
-{
-    let over = 100 < new.spare;
-    if over {
-        return Verdict::Refused(Refusal::R { number: 4 });
-    }
-    Verdict::Accepted
 }
 
 // R2, R5, R3, R4.
+#[tactic(auto, unfolding(rules::specs::Refusals::verdict))]
 fn judge_reading(c: Cabinet, area: &[u8], named: u64, new: Reading) -> Verdict
     ensures { result ≡ verdict (reading_checks (whole_of c area.now) named new) }
 {
-    let event = cabinet_record::judge_event(c, area, named);
-    match event {
-        Verdict::Refused(refusal) => Verdict::Refused(refusal),
-        Verdict::Accepted => judge_new(new),
-    }
+    cabinet_record::judge_event(c, area, named)?;
+    Refusal::R { number: 4 }.when(100 < new.spare)
 }
 
 // A module's record with the new reading, and the trips byte that it gives.
@@ -186,10 +176,10 @@ pub fn reading(c: Cabinet, area: &[u8], named: u64, new: Reading) -> Outcome
 {
     let verdict = judge_reading(c, area, named, new);
     match verdict {
-        Verdict::Accepted => {
+        Ok(()) => {
             let kept = keeping(cabinet_record::own(c, named), new);
             result(cabinet_record::with_device(c, named, kept), verdict, 0)
         }
-        Verdict::Refused(_) => result(c, verdict, 0),
+        Err(_) => result(c, verdict, 0),
     }
 }

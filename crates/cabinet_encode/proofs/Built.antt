@@ -16,7 +16,7 @@ length_of x y {m = m} e f = length-append x y ∙ ap (λ (k : ℕ). k + length y
 
 -- all of the 288 bytes
 pub built : (c : Cabinet) → InRange c → (old : List ℕ) {a b part part' : List ℕ} → length old ≡ 288
-    → a ≡ splice 0 (le 4 c.contexts) old → b ≡ splice 4 (le 28 0) a → part ≡ encode_of c.first → part' ≡ encode_of c.second
+    → a ≡ splice 0 (le 4 c.contexts) old → b ≡ splice 4 (zeros 28) a → part ≡ encode_of c.first → part' ≡ encode_of c.second
     → put_mid 160 128 (put_mid 32 128 b part) part' ≡ encode_cabinet c
 unfolding encode_cabinet
 built c h old {a = a} {b = b} {part = part} {part' = part'} whole p q e f =

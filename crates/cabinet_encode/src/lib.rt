@@ -5,6 +5,7 @@
 ghost use Rattle.std.specs.Prelude.{◌≡◌, length};
 ghost use Rattle.cabinet_bytes.specs.Encoding.{cabinet_size, module_place, encode_cabinet, Around};
 
+use bytes_base::ToBytes;
 use rules::Cabinet;
 
 // How many bytes a record has.
@@ -15,8 +16,8 @@ pub fn put(c: Cabinet, out: &mut [u8])
     requires { length out.old ≡ cabinet_size }
     ensures { out.new ≡ encode_cabinet c }
 {
-    bytes_base::put_at(out, 0, 4, c.contexts as u64);
-    bytes_base::put_at(out, 4, 28, 0);
+    c.contexts.put(out, 0);
+    bytes_base::put_zeros(out, 4, 28);
     device_encode::put(c.first, &mut out[32..160]);
     device_encode::put(c.second, &mut out[160..288]);
 }
@@ -24,11 +25,7 @@ pub fn put(c: Cabinet, out: &mut [u8])
 fn place(named: u64) -> usize
     ensures { result ≡ module_place named }
 {
-    let first = named == 0;
-    if first {
-        return 32;
-    }
-    160
+    if named == 0 { 32 } else { 160 }
 }
 
 // Writes what an event of one module changes, its own bytes and the contexts given out, over bytes that have all the rest.
@@ -36,7 +33,7 @@ pub fn put_named(c: Cabinet, named: u64, out: &mut [u8])
     requires { Around named c out.old }
     ensures { out.new ≡ encode_cabinet c }
 {
-    bytes_base::put_at(out, 0, 4, c.contexts as u64);
+    c.contexts.put(out, 0);
     let at = place(named);
     let own = cabinet_record::own(c, named);
     device_encode::put(own, &mut out[at..at + 128]);

@@ -36,42 +36,38 @@ pub fn adopted(d: Device) -> Cabinet
 fn possible(c: Cabinet) -> bool
     ensures { result ≡ possible_cabinet c }
 {
-    let both = device_phase::has_area(c.first.transfer) & device_phase::has_area(c.second.transfer);
     device_possible::possible(c.first, c.contexts)
-        & device_possible::possible(c.second, c.contexts)
-        & !both
+        && device_possible::possible(c.second, c.contexts)
+        && !(device_phase::has_area(c.first.transfer) && device_phase::has_area(c.second.transfer))
 }
 
 // The record of the module that an event names. A number over 1 is R5 before anything is asked of it.
 pub fn own(c: Cabinet, named: u64) -> Device
     ensures { result ≡ device_of named c }
 {
-    let first = named == 0;
-    if first {
-        return c.first;
+    match named {
+        0 => c.first,
+        _ => c.second,
     }
-    c.second
 }
 
 pub fn other(c: Cabinet, named: u64) -> Device
     ensures { result ≡ other_of named c }
 {
-    let first = named == 0;
-    if first {
-        return c.second;
+    match named {
+        0 => c.second,
+        _ => c.first,
     }
-    c.first
 }
 
 // The module's new record in its place.
 pub fn with_device(c: Cabinet, named: u64, d: Device) -> Cabinet
     ensures { result ≡ with_device_at named d c }
 {
-    let first = named == 0;
-    if first {
-        return Cabinet { first: d, ..c };
+    match named {
+        0 => Cabinet { first: d, ..c },
+        _ => Cabinet { second: d, ..c },
     }
-    Cabinet { second: d, ..c }
 }
 
 // R2, R5 and R3.
@@ -79,18 +75,9 @@ pub fn with_device(c: Cabinet, named: u64, d: Device) -> Cabinet
 fn judge(c: Cabinet, area: &[u8], unknown: bool) -> Verdict
     ensures { result ≡ verdict (R2Check area.now ∷ (unknown gives R 5) ∷ R3Check c ∷ []) }
 {
-    let size = area.len() == AREA_SIZE;
-    let possible = possible(c);
-    if !size {
-        return Verdict::Refused(Refusal::R { number: 2 });
-    }
-    if unknown {
-        return Verdict::Refused(Refusal::R { number: 5 });
-    }
-    if !possible {
-        return Verdict::Refused(Refusal::R { number: 3 });
-    }
-    Verdict::Accepted
+    Refusal::R { number: 2 }.when(area.len() != AREA_SIZE)?;
+    Refusal::R { number: 5 }.when(unknown)?;
+    Refusal::R { number: 3 }.when(!possible(c))
 }
 
 // A tick names no module, and gives R2 and R3 only.
@@ -113,10 +100,9 @@ pub fn left(status: u16, named: u64, c: Cabinet) -> Cabinet
     requires { (device_of named c).security.attempts ≤ attempt_limit }
     ensures { result ≡ record_left status named c }
 {
-    let wrong = status == 11;
-    if wrong {
-        let d = device_record::one_attempt_more(own(c, named));
-        return with_device(c, named, d);
+    if status == 11 {
+        with_device(c, named, device_record::one_attempt_more(own(c, named)))
+    } else {
+        c
     }
-    c
 }

@@ -6,7 +6,7 @@ use native.Mathlib.Omega.{arith}
 use lib.{IntN.{ℤ, pos}, ListN.{length, take, drop, set, length-append, length-drop, drop_of_length-le}, Seq.length-take-le}
 use borrow.{Author.Tests.{not-true, not-false, eqb-true, leb-true, eq-eqb, ne_eqb, le-leb}, Rule.Slice.PartMut.put_mid}
 use mir.{Syntax.w32, Val.{to_z, hbits}, Facts.to_z_pos}
-use Rattle.rules.{specs.Tests.{◌≤?◌, ◌=?◌}, specs.Bytes.{le, splice, zeros}, specs.Record.fresh_cabinet, proofs.page.Choice.and_true}
+use Rattle.rules.{specs.Tests.{◌≤?◌, ◌=?◌}, specs.Bytes.{splice, zeros}, specs.Record.fresh_cabinet, proofs.page.Choice.and_true}
 use Rattle.bytes_base.proofs.Parts.{lent, splice_splice, copy_whole}
 use Rattle.device_bytes.specs.Encoding.{encode_of}
 use Rattle.cabinet_bytes.specs.Encoding.{cabinet_size, encode_cabinet}
@@ -95,7 +95,7 @@ module _ (slots : List ℕ) where
   first_set (x ∷ xs) rest h = refl
 
   -- the record at 1, zeros at 289, then the selector
-  pub made : {part last : List ℕ} → length slots ≡ slots_size → part ≡ encode_cabinet fresh_cabinet → last ≡ splice 289 (le 288 0) (put_mid 1 288 slots part)
+  pub made : {part last : List ℕ} → length slots ≡ slots_size → part ≡ encode_cabinet fresh_cabinet → last ≡ splice 289 (zeros cabinet_size) (put_mid 1 288 slots part)
       → set last 0 0 ≡ 0 ∷ (encode_cabinet fresh_cabinet ++ zeros cabinet_size)
   made {part} {last} h p q =
       let e : List ℕ = encode_cabinet fresh_cabinet in

@@ -23,7 +23,7 @@ pub fn fresh(slots: &mut [u8]) -> i32
         return -1;
     }
     cabinet_encode::put(cabinet_record::fresh(), &mut slots[1..289]);
-    bytes_base::put_at(slots, 289, 288, 0);
+    bytes_base::put_zeros(slots, 289, 288);
     slots[0] = 0;
     0
 }

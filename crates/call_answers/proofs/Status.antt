@@ -1,7 +1,7 @@
 -- A status, an extended number and zeros, written one after the other over the front of a buffer.
 -- Assumes nothing.
-use mathlib.Core.{Path.{◌≡◌, refl, sym, ◌∙◌, ap}, List.{List, ◌∷◌, ◌++◌}}
-use Prim.Native.Nat.{ℕ, zero, suc}
+use mathlib.Core.{Path.{◌≡◌, refl, sym, ◌∙◌, ap}, List.{List, ◌++◌}}
+use Prim.Native.Nat.{ℕ}
 use native.Mathlib.Nat.{zero-add}
 use lib.ListN.{length, drop}
 use Rattle.rules.{specs.Bytes.{le, splice, zeros}, specs.Refusals.status_bytes}
@@ -11,17 +11,11 @@ use Rattle.bytes_base.proofs.Parts.{splice_next}
 front : (new old : List ℕ) → splice 0 new old ≡ new ++ drop (length new) old
 front new old = ap (λ (n : ℕ). new ++ drop n old) (zero-add (length new))
 
--- the bytes of 0 are zeros
-le_zero : (width : ℕ) → le width 0 ≡ zeros width
-le_zero zero = refl
-le_zero (suc width) = ap (λ (bytes : List ℕ). 0 ∷ bytes) (le_zero width)
-
 pub status_written : (status ext rest : ℕ) (old : List ℕ) {a b c : List ℕ}
-    → a ≡ splice 0 (le 2 status) old → b ≡ splice 2 (le 2 ext) a → c ≡ splice 4 (le rest 0) b
+    → a ≡ splice 0 (le 2 status) old → b ≡ splice 2 (le 2 ext) a → c ≡ splice 4 (zeros rest) b
     → c ≡ splice 0 (status_bytes status ext ++ zeros rest) old
 status_written status ext rest old p q r =
     r
-    ∙ ap (splice 4 (le rest 0)) (q ∙ ap (splice 2 (le 2 ext)) (p ∙ front (le 2 status) old) ∙ splice_next (le 2 status) (le 2 ext) old 2 refl)
-    ∙ splice_next (le 2 status ++ le 2 ext) (le rest 0) old 4 refl
-    ∙ sym (front (status_bytes status ext ++ le rest 0) old)
-    ∙ ap (λ (tail : List ℕ). splice 0 (status_bytes status ext ++ tail) old) (le_zero rest)
+    ∙ ap (splice 4 (zeros rest)) (q ∙ ap (splice 2 (le 2 ext)) (p ∙ front (le 2 status) old) ∙ splice_next (le 2 status) (le 2 ext) old 2 refl)
+    ∙ splice_next (le 2 status ++ le 2 ext) (zeros rest) old 4 refl
+    ∙ sym (front (status_bytes status ext ++ zeros rest) old)

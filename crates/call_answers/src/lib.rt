@@ -8,17 +8,17 @@ ghost use Rattle.rules.specs.Record.{module_of};
 ghost use Rattle.rules.specs.Refusals.{status_bytes, status_length, answer_after};
 ghost use Rattle.rules.specs.Module.{call_of, accepted_answer};
 
+use bytes_base::ToBytes;
 use rules::{Device, Function};
 
 // 4 bytes for status 1, else the function's length.
 pub fn status_length(status: u16, size: usize) -> usize
     ensures { result ≡ status_length status size }
 {
-    let unserved = status == 1;
-    if unserved {
-        return 4;
+    match status {
+        1 => 4,
+        _ => size,
     }
-    size
 }
 
 // Four bytes of status and extended number, and zeros up to the length.
@@ -27,31 +27,24 @@ pub fn put_status(answer: &mut [u8], status: u16, ext: u16, size: usize)
     requires size_in_bounds { size ≤ length answer.old }
     ensures { answer.new ≡ answer_after (status_bytes status ext ++ zeros (size - 4)) answer.old }
 {
-    bytes_base::put_at(answer, 0, 2, status as u64);
-    bytes_base::put_at(answer, 2, 2, ext as u64);
-    bytes_base::put_at(answer, 4, size - 4, 0);
+    status.put(answer, 0);
+    ext.put(answer, 2);
+    bytes_base::put_zeros(answer, 4, size - 4);
 }
 
-// What an accepted call answers, which its request, the area and the other module have no part in.
+// What an accepted call answers, which its request, the area and the other module have no part in: a status alone, where nothing else is named.
 pub fn put_accepted(d: Device, given: u32, function: Function, revision: u64, answer: &mut [u8])
     requires { answer_room ≤ length answer.old }
     ensures { (area request : List ℕ) (taken : Bool) → answer.new ≡ answer_after (accepted_answer (module_of d area given taken) (call_of function revision request)) answer.old }
 {
     match function {
-        Function::Mask => bytes_base::put_at(answer, 0, 4, call_table::mask(revision) as u64),
+        Function::Mask => call_table::mask(revision).put(answer, 0),
         Function::GetHealth => health_answers::put_health(d.trips, d.reading, answer),
         Function::GetThreshold => threshold_answers::put_answer(d.thresholds, answer),
         Function::GetFwInfo => transfer_answers::put_info(d.transfer, answer),
         Function::Start => transfer_answers::put_started(given, answer),
-        Function::Send => put_status(answer, 0, 0, 4),
-        Function::Finish => put_status(answer, 0, 0, 4),
         Function::Query => transfer_answers::put_queried(d.transfer, answer),
-        Function::SetThreshold => put_status(answer, 0, 0, 4),
         Function::GetSecurityState => security_answers::put_state(d.security, answer),
-        Function::SetPassphrase => put_status(answer, 0, 0, 4),
-        Function::Disable => put_status(answer, 0, 0, 4),
-        Function::Unlock => put_status(answer, 0, 0, 4),
-        Function::Freeze => put_status(answer, 0, 0, 4),
-        Function::Unserved => put_status(answer, 0, 0, 4),
+        _ => put_status(answer, 0, 0, 4),
     }
 }

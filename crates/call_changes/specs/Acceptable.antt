@@ -2,8 +2,9 @@
 -- Assumes nothing.
 use mathlib.Core.{Path.◌≡◌, Bool.Bool, List.List}
 use Rattle.std.specs.Prelude.{ℕ}
-use Rattle.rules.{specs.Record.module_of, specs.Refusals.verdict, specs.Module.{Call, checks}, specs.declared.Verdict.TheVariants.Accepted, specs.declared.Device.Device}
+use Rattle.rules.{specs.Record.module_of, specs.Refusals.verdict, specs.Module.{Call, checks}, specs.declared.Device.Device}
+use Rattle.std.specs.Prelude.{Ok}
 
 pub record Acceptable (d : Device) (area : List ℕ) (given : ℕ) (asked : Call) : Type 0 where
   pub taken : Bool
-  pub passed : verdict (checks (module_of d area given taken) asked) ≡ Accepted
+  pub passed : verdict (checks (module_of d area given taken) asked) ≡ Ok tt

@@ -6,9 +6,9 @@ ghost use Rattle.rules.specs.Numbers.{area_size};
 ghost use Rattle.rules.specs.With.{◌with_transfer◌, ◌with_thresholds◌, ◌with_security◌};
 ghost use Rattle.rules.specs.Record.{module_of, renewed};
 ghost use Rattle.rules.specs.Module.{call_of, change};
-ghost use Rattle.rules.proofs.page.Fitting.{Fitting};
 ghost use Rattle.call_changes.specs.Acceptable.{Acceptable};
 
+use call_table::Asked;
 use rules::{Device, Function, Security, Thresholds, Transfer};
 
 // The module's record after a call, and the contexts given out then.
@@ -47,25 +47,13 @@ fn with_security(d: Device, security: Security, given: u32) -> Changed
 }
 
 // The other module has no part in it.
-pub fn change(
-    d: Device,
-    given: u32,
-    area: &mut [u8],
-    function: Function,
-    revision: u64,
-    request: &[u8],
-) -> Changed
+pub fn change(d: Device, given: u32, area: &mut [u8], asked: &Asked) -> Changed
     requires area_len { length area.old ≡ area_size }
-    requires fitting { Fitting function (length request.now) }
-    requires acceptable { Acceptable d area.old given (call_of function revision request.now) }
-    ensures { (taken : Bool) → module_of result.device area.new result.given taken ≡ change (module_of d area.old given taken) (call_of function revision request.now) }
+    requires acceptable { Acceptable d area.old given (call_of asked.now.function asked.now.revision asked.now.request.now) }
+    ensures { (taken : Bool) → module_of result.device area.new result.given taken ≡ change (module_of d area.old given taken) (call_of asked.now.function asked.now.revision asked.now.request.now) }
 {
-    let same = Changed { device: d, given };
-    match function {
-        Function::Mask => same,
-        Function::GetHealth => same,
-        Function::GetThreshold => same,
-        Function::GetFwInfo => same,
+    let request = asked.request;
+    match asked.function {
         Function::Start => with_transfer(d, transfer_changes::start(d.transfer, given), given + 1),
         Function::Send => with_transfer(
             d,
@@ -73,13 +61,11 @@ pub fn change(
             given,
         ),
         Function::Finish => with_transfer(d, transfer_changes::finish(d.transfer, request), given),
-        Function::Query => same,
         Function::SetThreshold => with_thresholds(
             d,
             threshold_changes::set(d.thresholds, request),
             given,
         ),
-        Function::GetSecurityState => same,
         Function::SetPassphrase => with_security(
             d,
             security_changes::set_passphrase(d.security, &request[32..]),
@@ -88,6 +74,6 @@ pub fn change(
         Function::Disable => with_security(d, security_changes::disable(d.security), given),
         Function::Unlock => with_security(d, security_changes::unlock(d.security), given),
         Function::Freeze => with_security(d, security_changes::freeze(d.security), given),
-        Function::Unserved => same,
+        _ => Changed { device: d, given },
     }
 }

@@ -1,65 +1,66 @@
 // Document 01, "Which function index at which revision": the one table of functions, and function 0's mask.
 #![tactic(auto)]
 
-ghost use Rattle.std.specs.Prelude.{◌≡◌, true, false};
-ghost use Rattle.rules.specs.Table.{unserved, row_of, mask as mask_of};
+ghost use Rattle.std.specs.Prelude.{◌≡◌, length};
+ghost use Rattle.rules.specs.Table.{row_of, mask as mask_of};
+ghost use Rattle.rules.proofs.page.Fitting.{Fitting};
+ghost use Rattle.call_table.specs.Fits.{Fitting-prop};
 
-use rules::{Function, Row};
+use rules::RequestLength::{AtLeast, Exactly};
+use rules::{Function, RequestLength, Row};
 
-// A row whose request has one length.
-fn row(function: Function, since: u8, request: usize, answer: usize) -> Row
-    ensures { result ≡ record { function = function; since = since; request = request; more = false; answer = answer } }
+// A call as its host makes it, with the row of its index.
+#[derive(Clone, Copy)]
+pub struct Call<'a> {
+    pub named: u64,
+    pub revision: u64,
+    pub index: u64,
+    pub row: Row,
+    pub request: &'a [u8],
+    ghost in_table: { row ≡ row_of index },
+}
+
+// What a call asks of a function: its request has the bytes that the function reads.
+#[derive(Clone, Copy)]
+pub struct Asked<'a> {
+    pub function: Function,
+    pub revision: u64,
+    pub request: &'a [u8],
+    ghost fits: { Fitting function (length request.now) } by { Fitting-prop function (length request.now) },
+}
+
+fn row(function: Function, since: u8, request: RequestLength, answer: usize) -> Row
+    ensures { result ≡ record { function = function; since = since; request = request; answer = answer } }
 {
     Row {
         function,
         since,
         request,
-        more: false,
         answer,
     }
 }
 
-// A row whose request may go on past its first bytes.
-fn row_and_more(function: Function, since: u8, request: usize, answer: usize) -> Row
-    ensures { result ≡ record { function = function; since = since; request = request; more = true; answer = answer } }
-{
-    Row {
-        function,
-        since,
-        request,
-        more: true,
-        answer,
-    }
-}
-
-// The row of an index that the table lacks: served from revision 3 on, so never.
-fn no_row() -> Row
-    ensures { result ≡ unserved }
-{
-    row_and_more(Function::Unserved, 3, 0, 4)
-}
-
-// The row of an index. What the table skips, and all past it, is unserved.
+// The row of an index, by ranges as the page asks. What the table skips, and all past it, is unserved: from revision 3 on, so never.
+#[tactic(auto, using(crate::proofs::Laws::row_at))]
 pub fn look_up(index: u64) -> Row
     ensures { result ≡ row_of index }
 {
     match index {
-        0 => row_and_more(Function::Mask, 1, 0, 4),
-        1 => row(Function::GetHealth, 1, 0, 132),
-        2 => row(Function::GetThreshold, 1, 0, 12),
-        12 => row(Function::GetFwInfo, 2, 0, 44),
-        13 => row(Function::Start, 2, 0, 8),
-        14 => row_and_more(Function::Send, 2, 12, 4),
-        15 => row(Function::Finish, 2, 8, 4),
-        16 => row(Function::Query, 2, 4, 12),
-        17 => row(Function::SetThreshold, 2, 7, 4),
-        19 => row(Function::GetSecurityState, 2, 0, 12),
-        20 => row(Function::SetPassphrase, 2, 64, 4),
-        21 => row(Function::Disable, 2, 32, 4),
-        22 => row(Function::Unlock, 2, 32, 4),
-        23 => row(Function::Freeze, 2, 0, 4),
-        3..=11 | 18 => no_row(),
-        _ => no_row(),
+        0 => row(Function::Mask, 1, AtLeast(0), 4),
+        1 => row(Function::GetHealth, 1, Exactly(0), 132),
+        2 => row(Function::GetThreshold, 1, Exactly(0), 12),
+        12 => row(Function::GetFwInfo, 2, Exactly(0), 44),
+        13 => row(Function::Start, 2, Exactly(0), 8),
+        14 => row(Function::Send, 2, AtLeast(12), 4),
+        15 => row(Function::Finish, 2, Exactly(8), 4),
+        16 => row(Function::Query, 2, Exactly(4), 12),
+        17 => row(Function::SetThreshold, 2, Exactly(7), 4),
+        19 => row(Function::GetSecurityState, 2, Exactly(0), 12),
+        20 => row(Function::SetPassphrase, 2, Exactly(64), 4),
+        21 => row(Function::Disable, 2, Exactly(32), 4),
+        22 => row(Function::Unlock, 2, Exactly(32), 4),
+        23 => row(Function::Freeze, 2, Exactly(0), 4),
+        3..=11 | 18 | 24.. => row(Function::Unserved, 3, AtLeast(0), 4),
     }
 }
 

@@ -1,55 +1,25 @@
 // A place of two logs: which of a record's six fields differ there. A place may be cut by the shorter log's end.
 #![tactic(auto)]
 
-ghost use Rattle.std.specs.Prelude.{◌≡◌, not, ◌+◌, ◌*◌, ◌≤◌, length, take, drop};
-ghost use Rattle.std.specs.Prelude.{if◌then◌else◌};
+ghost use Rattle.std.specs.Prelude.{◌≡◌, not, ◌-◌, ◌≤◌, length, take, drop, if◌then◌else◌};
 ghost use Rattle.rules.specs.Bytes.{same?};
-ghost use Rattle.rules.specs.Log.{request_bytes};
 ghost use Rattle.rules.specs.Compare.{fields_differing, field_bits};
 
-// A byte is the same in both, or past the end of both.
-fn same_byte(a: &[u8], b: &[u8], at: usize) -> bool
-    requires { length a.now ≡ length b.now }
-    ensures { result ≡ same? (take 1 (drop at a.now)) (take 1 (drop at b.now)) }
+// The bytes from one place on up to another, as far as they are there.
+fn part<'a>(bytes: &'a [u8], from: usize, to: usize) -> &'a [u8]
+    requires { from ≤ to }
+    ensures { result.now ≡ take (to - from) (drop from bytes.now) }
 {
-    if a.len() <= at {
-        return true;
-    }
-    a[at] == b[at]
+    let len = bytes.len();
+    &bytes[from.min(len)..to.min(len)]
 }
 
-// Two bytes are.
-fn same_half(a: &[u8], b: &[u8], at: usize) -> bool
-    requires a_len { length a.now ≡ length b.now }
-    requires at_bound { at ≤ 6 }
-    ensures { result ≡ same? (take 2 (drop at a.now)) (take 2 (drop at b.now)) }
+// Whether a field differs, as far as it is there: 1 or 0.
+fn differs(a: &[u8], b: &[u8], from: usize, to: usize) -> u64
+    requires { from ≤ to }
+    ensures { result ≡ (if not (same? (take (to - from) (drop from a.now)) (take (to - from) (drop from b.now))) then 1 else 0) }
 {
-    let low = same_byte(a, b, at);
-    let high = same_byte(a, b, at + 1);
-    low & high
-}
-
-// The request is, with its padding.
-fn same_request(a: &[u8], b: &[u8]) -> bool
-    requires { length a.now ≡ length b.now }
-    ensures { result ≡ same? (request_bytes a.now) (request_bytes b.now) }
-{
-    if a.len() <= 8 {
-        return true;
-    }
-    bytes_base::same(&a[8..], &b[8..])
-}
-
-// A field's bit before those of the fields after it.
-fn with_field(same: bool, others: u64) -> u64
-    requires { others ≤ 31 }
-    ensures value { result ≡ (if not same then 1 else 0) + 2 * others }
-    ensures upper_bound { result ≤ 2 * others + 1 }
-{
-    if same {
-        return 2 * others;
-    }
-    1 + 2 * others
+    u64::from(!bytes_base::same(part(a, from, to), part(b, from, to)))
 }
 
 // A bit for each field that differs, the lowest for the kind.
@@ -58,10 +28,11 @@ pub fn fields(a: &[u8], b: &[u8]) -> u64
     ensures value { result ≡ field_bits (fields_differing a.now b.now) }
     ensures upper_bound { result ≤ 63 }
 {
-    let request = with_field(same_request(a, b), 0);
-    let length = with_field(same_half(a, b, 6), request);
-    let function = with_field(same_half(a, b, 4), length);
-    let revision = with_field(same_half(a, b, 2), function);
-    let host = with_field(same_byte(a, b, 1), revision);
-    with_field(same_byte(a, b, 0), host)
+    let end = a.len().max(8);
+    differs(a, b, 0, 1)
+        + 2 * differs(a, b, 1, 2)
+        + 4 * differs(a, b, 2, 4)
+        + 8 * differs(a, b, 4, 6)
+        + 16 * differs(a, b, 6, 8)
+        + 32 * differs(a, b, 8, end)
 }

@@ -1,10 +1,11 @@
 -- Document 02, T-06: the part that is handed back, as it lies in a log that was lent.
 -- Assumes nothing.
-use Rattle.std.specs.Prelude.{ℕ, ◌+◌, ◌<◌, ◌≤◌, cond, length, drop}
+use Rattle.std.specs.Prelude.{Ok, Err, ℕ, ◌+◌, ◌<◌, ◌≤◌, cond, length, drop}
 use mathlib.Core.{Path.◌≡◌, List.List}
 use Rattle.std.specs.Borrow.{Bor}
-use Rattle.rules.specs.{Tests.◌≤?◌, declared.Comparison.Comparison, declared.Comparison.TheVariants.{Compared, Full}}
+use Rattle.rules.specs.{Tests.◌≤?◌}
 use Rattle.rules.specs.Compare.{differences, comparison}
+use Rattle.rules.specs.Compare.{Comparison}
 
 -- the part of a log from a byte on: where it begins in memory, and its bytes
 pub record Lies (log : Bor (List ℕ)) (from : ℕ) (part : Bor (List ℕ)) : Type 0 where
@@ -18,8 +19,8 @@ RestOf first second part =
 
 -- of a report; where the list was full, "the empty end of the first is handed back"
 abbrev pub HandedBack : Comparison → (first second part : Bor (List ℕ)) → Type 0
-HandedBack (Compared leading differing left) first second part = RestOf first second part
-HandedBack (Full differing) first second part = Lies first (length first.now) part
+HandedBack (Ok told) first second part = RestOf first second part
+HandedBack (Err told) first second part = Lies first (length first.now) part
 
 -- with the report that `compare` gives for a list that holds so many places: where more differ, "the empty end of the first is handed back", and else the rest
 pub record WithItsReport (report : Comparison) (first second part : Bor (List ℕ)) : Type 0 where

@@ -1,4 +1,4 @@
--- Laws of places that are counted and listed: one place more, by its test; and a cut one behind whole ones.
+-- Laws of places that are counted and listed: one place more, by its test.
 -- Assumes nothing.
 use mathlib.Core.{Path.{◌≡◌, refl, sym, ◌∙◌, ap}, Bool.{Bool, true, false, ◌&&◌}, List.{List, [], ◌∷◌, ◌++◌}}
 use Prim.Native.Nat.{ℕ, zero, suc, ◌+◌, ◌-◌, ◌*◌, ◌≤◌, ◌<◌}
@@ -9,34 +9,13 @@ use Rattle.rules.specs.{Tests.{◌=?◌}, Bytes.same?, Log.record_at}
 use Rattle.rules.specs.Compare.{fields_differing, field_bits, Difference, difference_at, differences_to, leading_on, leading_to, entry, entries}
 use Rattle.rules.proofs.page.Compared.{as_many}
 use Rattle.bytes_base.proofs.Parts.{rest}
-use Rattle.compare_places.specs.{declared.SoFar.SoFar, SoFar.{equal_counted, place_counted, place_listed, counted_to, listed_to}}
+use Rattle.compare_places.specs.{declared.SoFar.SoFar, SoFar.{place_counted, place_listed, counted_to, listed_to}}
 
 -- what a test of the bytes comes to
 abbrev difference : Bool → (number : ℕ) (a b : List ℕ) → List Difference
 difference t number a b = if t then [] else record { place = number; fields = fields_differing a b } ∷ []
 
 module _ (s : SoFar) (a b : List ℕ) where
-  pub counted_equal : same? a b ≡ true → equal_counted s ≡ place_counted s a b
-  counted_equal e = λ i. record {
-    places = s.places + 1;
-    leading = ap (leading_on s.leading s.places) (sym e) i;
-    differing = (sym (add-zero s.differing) ∙ ap (λ (t : Bool). s.differing + length (difference t s.places a b)) (sym e)) i;
-  }
-
-  pub listed_equal : (list : List ℕ) → same? a b ≡ true → list ≡ place_listed s a b list
-  listed_equal list e = ap (λ (t : Bool). sets list s.differing (entries (difference t s.places a b))) (sym e)
-
-  pub counted_other : same? a b ≡ false → record { places = s.places + 1; leading = s.leading; differing = s.differing + 1 } ≡ place_counted s a b
-  counted_other e = λ i. record {
-    places = s.places + 1;
-    leading = (stays (s.leading =? s.places) ∙ ap (leading_on s.leading s.places) (sym e)) i;
-    differing = ap (λ (t : Bool). s.differing + length (difference t s.places a b)) (sym e) i;
-  }
-    where
-      stays : (t : Bool) → s.leading ≡ (if t && false then s.places + 1 else s.leading)
-      stays true = refl
-      stays false = refl
-
   pub listed_other : (list : List ℕ) {fields : ℕ} → same? a b ≡ false → fields ≡ field_bits (fields_differing a b)
       → set list s.differing (s.places * 64 + fields) ≡ place_listed s a b list
   listed_other list e f =
@@ -91,9 +70,6 @@ module _ (s : SoFar) (first second : List ℕ) (j : ℕ) where
       ap (λ (n : ℕ). sets (sets list s.differing (entries so_far)) (s.differing + n) (entries here)) (sym (as_many so_far))
       ∙ sym (sets_both list s.differing (entries so_far) (entries here))
       ∙ ap (sets list s.differing) (sym (entries_both so_far here))
-
-pub as_long : (s : SoFar) (first second list : List ℕ) (j : ℕ) → length (listed_to s first second list j) ≡ length list
-as_long s first second list j = length-sets list s.differing (entries (differences_to s.places first second j))
 
 -- no more differ than there are
 pub few : (number : ℕ) (first second : List ℕ) (j : ℕ) → length (differences_to number first second j) ≤ j

@@ -1,7 +1,7 @@
 -- Places counted and listed one after another, on from what was counted before.
 -- Assumes nothing.
 use Rattle.std.specs.Prelude.{ℕ, ◌+◌, ◌≤◌, ◌<◌}
-use mathlib.Core.{Bool.true, List.List}
+use mathlib.Core.{List.List}
 use lib.{ListN.length, Seq.sets}
 use Rattle.rules.specs.{Bytes.same?, Compare.{places_in, difference_at, differences_to, leading_on, leading_to, entries}}
 use Rattle.compare_places.specs.declared.SoFar.{SoFar}
@@ -17,9 +17,6 @@ Counted s = (s.places < most_places) × (s.differing ≤ s.places)
 -- before the first place
 abbrev pub none_places : SoFar
 none_places = record { places = 0; leading = 0; differing = 0 }
-
-abbrev pub equal_counted : SoFar → SoFar
-equal_counted s = record { places = s.places + 1; leading = leading_on s.leading s.places true; differing = s.differing }
 
 -- one place more
 abbrev pub place_counted : SoFar → (a b : List ℕ) → SoFar

@@ -1,66 +1,39 @@
 -- Laws of the report's text: names by their bits, a line, and the lines of a list.
 -- Assumes nothing.
 use Prim.Native.Nat.{ℕ, suc, ◌+◌, ◌*◌, ◌/◌, ◌%◌, ◌≤◌, ◌<◌}
-use Prim.Native.String.{String}
-use mathlib.Core.{Path.{◌≡◌, sym, ◌∙◌, ap, subst}, Bool.{Bool, true, false}, List.{List, [], ◌∷◌, ◌++◌, append_assoc, append-nil}}
-use native.Mathlib.{Nat.add-zero, Omega.arith}
-use lib.{ListN.{length, get_or, take, drop, take-append-drop}, Seq.{take-suc}}
-use Rattle.std.specs.Prelude.{if◌then◌else◌}
-use Rattle.rules.specs.{Tests.{◌=?◌}, Text.{ascii, decimal, field}, Compare.field_names}
+use mathlib.Core.{Path.{◌≡◌, refl, sym, ◌∙◌, ap}, List.{List, [], ◌∷◌, ◌++◌, append_assoc, append-nil}}
+use native.Mathlib.{Omega.arith}
+use lib.{ListN.{length, get_or, take}, Seq.{take-suc, length-take-le}}
+use Rattle.rules.specs.{Text.{ascii, decimal, field}, Compare.field_names}
 use Rattle.text.{specs.Wrote.{Wrote, WroteWithin}, proofs.Writing.{and_then, rewrote}}
-use Rattle.compare_text.specs.Lines.{names_of, entry_line, entry_lines, report_text, report_room, EntriesThere}
-use Rattle.rules.specs.declared.{Comparison.Comparison, Comparison.TheVariants.{Compared, Full}}
-
--- nothing was written
-pub wrote_none : (old : List ℕ) (at : ℕ) → Wrote old at [] old at
-wrote_none old at =
-    record { next_is = sym (add-zero at); new_is = sym (ap (λ (n : ℕ). take at old ++ drop n old) (add-zero at) ∙ take-append-drop at old) }
-
--- a name by its bit
-abbrev name_if : (bits : ℕ) → List ℕ → List ℕ
-name_if bits name = if bits % 2 =? 1 then name else []
-
-module _ {old name new : List ℕ} {at next : ℕ} (bits : ℕ) where
-  pub name_on : (bits % 2 =? 1) ≡ true → Wrote old at name new next → WroteWithin (length name) old at (name_if bits name) new next
-  name_on e w = record { within = omega (arith, w.next_is); wrote = rewrote (ap (λ (t : Bool). if t then name else []) (sym e)) w }
-
-pub name_off : (old name : List ℕ) (at bits : ℕ) → (bits % 2 =? 1) ≡ false → WroteWithin (length name) old at (name_if bits name) old at
-name_off old name at bits e = record { within = omega arith; wrote = rewrote (ap (λ (t : Bool). if t then name else []) (sym e)) (wrote_none old at) }
+use Rattle.compare_text.specs.Lines.{name_if, names_of, entry_line, entry_lines, report_text}
+use Rattle.rules.specs.Compare.{report}
 
 -- three names one after another
-pub three_names : (bits most : ℕ) (a b c : String) {old mid far new : List ℕ} {at i j k p q r : ℕ} → at ≤ length old → p + q + r ≤ most
-    → WroteWithin p old at (name_if bits (ascii a)) mid i → WroteWithin q mid i (name_if (bits / 2) (ascii b)) far j → WroteWithin r far j (name_if (bits / 4) (ascii c)) new k
-    → WroteWithin most old at (names_of bits (a ∷ b ∷ c ∷ [])) new k
-three_names bits most a b c {old} {mid} {far} {new} {at} {i} {j} {k} {p} {q} {r} h m x y z =
+pub three_names : {first second third : List ℕ} {old mid far new : List ℕ} {at i j k p q r : ℕ} → at ≤ length old
+    → WroteWithin p old at first mid i → WroteWithin q mid i second far j → WroteWithin r far j third new k
+    → WroteWithin (p + q + r) old at (first ++ (second ++ third)) new k
+three_names {first} {second} {third} h x y z =
     record {
       within = omega (arith, x.within, y.within, z.within);
-      wrote = rewrote text (and_then h (and_then h x.wrote y.wrote) z.wrote);
+      wrote = rewrote (append_assoc first second third) (and_then h (and_then h x.wrote y.wrote) z.wrote);
     }
-  where
-    text : name_if bits (ascii a) ++ name_if (bits / 2) (ascii b) ++ name_if (bits / 4) (ascii c) ≡ names_of bits (a ∷ b ∷ c ∷ [])
-    text =
-        let e : bits / 4 ≡ bits / 2 / 2 = omega arith in
-        append_assoc (name_if bits (ascii a)) (name_if (bits / 2) (ascii b)) (name_if (bits / 4) (ascii c))
-        ∙ ap (λ (n : ℕ). name_if bits (ascii a) ++ (name_if (bits / 2) (ascii b) ++ name_if n (ascii c))) e
-        ∙ ap (λ (l : List ℕ). name_if bits (ascii a) ++ (name_if (bits / 2) (ascii b) ++ l)) (sym (append-nil (name_if (bits / 2 / 2) (ascii c))))
 
--- three names, and those behind them
-six_names : (bits : ℕ) (a b c : String) (names : List String) → names_of bits (a ∷ b ∷ c ∷ []) ++ names_of (bits / 8) names ≡ names_of bits (a ∷ b ∷ c ∷ names)
-six_names bits a b c names =
-    let e : bits / 8 ≡ bits / 2 / 2 / 2 = omega arith in
-    let x : List ℕ = name_if bits (ascii a) in
-    let y : List ℕ = name_if (bits / 2) (ascii b) in
-    let z : List ℕ = name_if (bits / 2 / 2) (ascii c) in
-    ap (λ (n : ℕ). x ++ (y ++ (z ++ [])) ++ names_of n names) e
-    ∙ ap (λ (l : List ℕ). x ++ (y ++ l) ++ names_of (bits / 2 / 2 / 2) names) (append-nil z)
-    ∙ append_assoc x (y ++ z) (names_of (bits / 2 / 2 / 2) names)
-    ∙ ap (λ (l : List ℕ). x ++ l) (append_assoc y z (names_of (bits / 2 / 2 / 2) names))
+-- six names, three and three
+six_names : (bits : ℕ) → (name_if bits (ascii " kind") ++ (name_if (bits / 2) (ascii " host") ++ name_if (bits / 4) (ascii " revision")))
+    ++ (name_if (bits / 8) (ascii " function") ++ (name_if (bits / 8 / 2) (ascii " length") ++ name_if (bits / 8 / 4) (ascii " request"))) ≡ names_of bits field_names
+six_names bits =
+    let four : bits / 4 ≡ bits / 2 / 2 = omega arith in
+    let eight : bits / 8 ≡ bits / 2 / 2 / 2 = omega arith in
+    let sixteen : bits / 8 / 2 ≡ bits / 2 / 2 / 2 / 2 = omega arith in
+    let last : bits / 8 / 4 ≡ bits / 2 / 2 / 2 / 2 / 2 = omega arith in
+    rw (sixteen, last, four, eight, append_assoc, append_assoc, append-nil) refl
 
 -- a line
 pub line : (entry : ℕ) {old mid far last new : List ℕ} {at i j k n : ℕ} → at ≤ length old
     → WroteWithin 20 old at (decimal (entry / 64)) mid i
-    → WroteWithin 19 mid i (names_of (entry % 64) (" kind" ∷ " host" ∷ " revision" ∷ [])) far j
-    → WroteWithin 24 far j (names_of (entry % 64 / 8) (" function" ∷ " length" ∷ " request" ∷ [])) last k
+    → WroteWithin 19 mid i (name_if (entry % 64) (ascii " kind") ++ (name_if (entry % 64 / 2) (ascii " host") ++ name_if (entry % 64 / 4) (ascii " revision"))) far j
+    → WroteWithin 24 far j (name_if (entry % 64 / 8) (ascii " function") ++ (name_if (entry % 64 / 8 / 2) (ascii " length") ++ name_if (entry % 64 / 8 / 4) (ascii " request"))) last k
     → Wrote last k (ascii "\n") new n → WroteWithin 64 old at (entry_line entry) new n
 unfolding entry_line
 line entry {at = at} {n = n} h w x y z =
@@ -73,15 +46,13 @@ line entry {at = at} {n = n} h w x y z =
     d = decimal (entry / 64)
 
     a : List ℕ
-    a = names_of (entry % 64) (" kind" ∷ " host" ∷ " revision" ∷ [])
+    a = name_if (entry % 64) (ascii " kind") ++ (name_if (entry % 64 / 2) (ascii " host") ++ name_if (entry % 64 / 4) (ascii " revision"))
 
     b : List ℕ
-    b = names_of (entry % 64 / 8) (" function" ∷ " length" ∷ " request" ∷ [])
+    b = name_if (entry % 64 / 8) (ascii " function") ++ (name_if (entry % 64 / 8 / 2) (ascii " length") ++ name_if (entry % 64 / 8 / 4) (ascii " request"))
 
     text : d ++ a ++ b ++ ascii "\n" ≡ d ++ names_of (entry % 64) field_names ++ ascii "\n"
-    text =
-        ap (λ (l : List ℕ). l ++ ascii "\n") (append_assoc d a b
-        ∙ ap (λ (l : List ℕ). d ++ l) (six_names (entry % 64) " kind" " host" " revision" (" function" ∷ " length" ∷ " request" ∷ [])))
+    text = ap (λ (l : List ℕ). l ++ ascii "\n") (append_assoc d a b ∙ ap (λ (l : List ℕ). d ++ l) (six_names (entry % 64)))
 
 -- the lines of one entry more
 lines_both : (xs : List ℕ) (x : ℕ) → entry_lines (xs ++ (x ∷ [])) ≡ entry_lines xs ++ entry_line x
@@ -98,24 +69,13 @@ lines_on list i k {old} {mid} {new} {at} {j} {n} h e a w x =
     }
 
 -- the whole text of logs that were compared
-pub whole : (l d n : ℕ) (list : List ℕ) {old mid far new : List ℕ} {i j k : ℕ}
-    → WroteWithin 32 old 0 (ascii "leading " ++ field l "\n") mid i → WroteWithin (64 * d) mid i (entry_lines (take d list)) far j
-    → WroteWithin 32 far j (ascii "left " ++ field n "\n") new k → WroteWithin (64 * d + 64) old 0 (report_text (Compared l d n) list) new k
-whole l d n list w x y =
+pub whole : (l d n : ℕ) (list : List ℕ) {old mid far new : List ℕ} {i j k : ℕ} → d ≤ length list
+    → WroteWithin 32 old 0 (ascii "leading " ++ field l "\n") mid i → WroteWithin (64 * length (take d list)) mid i (entry_lines (take d list)) far j
+    → WroteWithin 32 far j (ascii "left " ++ field n "\n") new k → WroteWithin (64 * d + 64) old 0 (report_text (report l d n) list) new k
+whole l d n list h w x y =
+    let front : length (take d list) ≡ d = length-take-le d list h in
     record {
-      within = omega (arith, w.within, x.within, y.within);
+      within = omega (arith, w.within, x.within, y.within, front);
       wrote = rewrote (sym (append_assoc (ascii "leading " ++ field l "\n" ++ entry_lines (take d list)) (ascii "left ") (field n "\n")))
           (and_then (omega arith) (and_then (omega arith) w.wrote x.wrote) y.wrote);
     }
-
--- a report by what it is
-module _ (list out : List ℕ) {r : Comparison} where
-  pub compared_room : {l d n : ℕ} → r ≡ Compared l d n → EntriesThere r list → report_room r ≤ length out → (d ≤ length list) × (64 * d + 64 ≤ length out)
-  compared_room e p q = (subst (λ (x : Comparison). EntriesThere x list) e p, subst (λ (x : Comparison). report_room x ≤ length out) e q)
-
-  pub full_room : {d : ℕ} → r ≡ Full d → report_room r ≤ length out → 64 ≤ length out
-  full_room e q = subst (λ (x : Comparison). report_room x ≤ length out) e q
-
-  pub by_report : {new : List ℕ} {k : ℕ} (x : Comparison) → r ≡ x → WroteWithin (report_room x) out 0 (report_text x list) new k
-      → WroteWithin (report_room r) out 0 (report_text r list) new k
-  by_report {new} {k} x e w = subst (λ (x : Comparison). WroteWithin (report_room x) out 0 (report_text x list) new k) (sym e) w

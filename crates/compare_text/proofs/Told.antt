@@ -10,8 +10,8 @@ use Rattle.std.specs.Prelude.{if◌then◌else◌}
 use Rattle.rules.{specs.Tests.{◌≤?◌, ◌=?◌}, specs.Bytes.same?, specs.Text.{ascii, decimal, field}, specs.Log.{record_at, kind_bytes, host_bytes, revision_bytes, function_bytes, length_bytes, request_bytes}}
 use Rattle.rules.specs.Compare.{fields_differing, Difference, difference_at, differences_to, places, compared, differences, leading, left, comparison, field_bits, entry, entries, list_after, field_names, named, difference_line, difference_lines, comparison_text}
 use Rattle.rules.proofs.page.Compared.{as_many, request_T06}
-use Rattle.rules.specs.declared.{Comparison.Comparison}
 use Rattle.compare_text.specs.Lines.{names_of, entry_line, entry_lines, report_text, TextOfReport}
+use Rattle.rules.specs.Compare.{Comparison}
 
 -- no name for no bit
 no_names : (names : List String) → names_of 0 names ≡ []

@@ -6,41 +6,38 @@ ghost use Rattle.std.specs.Prelude.{if◌then◌else◌};
 ghost use Rattle.rules.specs.Tests.{◌=?◌};
 ghost use Rattle.rules.specs.Text.{decimal};
 ghost use Rattle.text.specs.Wrote.{WroteWithin};
-ghost use Rattle.compare_text.specs.Lines.{names_of, entry_line, entry_lines, report_text, report_room, EntriesThere, TextOfReport};
-ghost use Rattle.rules.specs.declared.Comparison.TheVariants.{Compared};
+ghost use Rattle.compare_text.specs.Lines.{name_if, entry_line, entry_lines, report_text, report_room, EntriesThere, TextOfReport};
+ghost use Rattle.rules.specs.Compare.{report};
 
-use rules::Comparison;
+use rules::{Compared, Comparison};
 
 // A field's name, if its bit is the lowest and is on.
 fn put_name(out: &mut [u8], at: usize, bits: u64, name: &[u8]) -> usize
     requires { at + length name.now ≤ length out.old }
-    ensures { WroteWithin (length name.now) out.old at (if bits % 2 =? 1 then name.now else []) out.new result }
+    ensures { WroteWithin (length name.now) out.old at (name_if bits name.now) out.new result }
 {
-    let on = bits % 2 == 1;
-    if on {
-        return text::put(out, at, name);
+    if bits % 2 == 1 {
+        text::put(out, at, name)
+    } else {
+        at
     }
-    at
 }
 
-// The names of the first three fields.
-fn put_first_names(out: &mut [u8], at: usize, bits: u64) -> usize
-    requires { at + 19 ≤ length out.old }
-    ensures { WroteWithin 19 out.old at (names_of bits (" kind" ∷ " host" ∷ " revision" ∷ [])) out.new result }
+// The names of three fields, the first by the lowest bit.
+fn put_names(
+    out: &mut [u8],
+    at: usize,
+    bits: u64,
+    first: &[u8],
+    second: &[u8],
+    third: &[u8],
+) -> usize
+    requires { at + (length first.now + length second.now + length third.now) ≤ length out.old }
+    ensures { WroteWithin (length first.now + length second.now + length third.now) out.old at (name_if bits first.now ++ (name_if (bits / 2) second.now ++ name_if (bits / 4) third.now)) out.new result }
 {
-    let kind = put_name(out, at, bits, b" kind");
-    let host = put_name(out, kind, bits / 2, b" host");
-    put_name(out, host, bits / 4, b" revision")
-}
-
-// The names of the last three.
-fn put_last_names(out: &mut [u8], at: usize, bits: u64) -> usize
-    requires { at + 24 ≤ length out.old }
-    ensures { WroteWithin 24 out.old at (names_of bits (" function" ∷ " length" ∷ " request" ∷ [])) out.new result }
-{
-    let function = put_name(out, at, bits, b" function");
-    let length = put_name(out, function, bits / 2, b" length");
-    put_name(out, length, bits / 4, b" request")
+    let behind = put_name(out, at, bits, first);
+    let last = put_name(out, behind, bits / 2, second);
+    put_name(out, last, bits / 4, third)
 }
 
 // The line of a place that differs: its number, and the names of the fields that differ.
@@ -50,21 +47,19 @@ fn put_line(out: &mut [u8], at: usize, entry: u64) -> usize
 {
     let bits = entry % 64;
     let number = text::put_decimal(out, at, entry / 64);
-    let first = put_first_names(out, number, bits);
-    let last = put_last_names(out, first, bits / 8);
-    text::put(out, last, b"\n")
+    let half = put_names(out, number, bits, b" kind", b" host", b" revision");
+    let names = put_names(out, half, bits / 8, b" function", b" length", b" request");
+    text::put(out, names, b"\n")
 }
 
-// The lines of the front of the list.
-fn put_lines(out: &mut [u8], at: usize, list: &[u64], count: usize) -> usize
-    requires { (count ≤ length list.now) × (at + 64 * count ≤ length out.old) }
-    ensures { WroteWithin (64 * count) out.old at (entry_lines (take count list.now)) out.new result }
+// The lines of entries of the list.
+fn put_lines(out: &mut [u8], at: usize, entries: &[u64]) -> usize
+    requires { at + 64 * length entries.now ≤ length out.old }
+    ensures { WroteWithin (64 * length entries.now) out.old at (entry_lines entries.now) out.new result }
 {
     let mut next = at;
-    let mut i = 0;
-    while i < count {
-        next = put_line(out, next, list[i]);
-        i += 1;
+    for entry in entries {
+        next = put_line(out, next, *entry);
     }
     next
 }
@@ -79,13 +74,13 @@ fn put_number(out: &mut [u8], at: usize, word: &[u8], number: u64) -> usize
 }
 
 // The text of logs that were compared, at the front of a buffer.
-fn put_compared(out: &mut [u8], leading: u64, differing: u64, left: u64, list: &[u64]) -> usize
-    requires { (differing ≤ length list.now) × (64 * differing + 64 ≤ length out.old) }
-    ensures { WroteWithin (64 * differing + 64) out.old 0 (report_text (Compared leading differing left) list.now) out.new result }
+fn put_compared(out: &mut [u8], compared: Compared, list: &[u64]) -> usize
+    requires { (compared.differing ≤ length list.now) × (64 * compared.differing + 64 ≤ length out.old) }
+    ensures { WroteWithin (64 * compared.differing + 64) out.old 0 (report_text (report compared.leading compared.differing compared.left) list.now) out.new result }
 {
-    let first = put_number(out, 0, b"leading ", leading);
-    let lines = put_lines(out, first, list, differing as usize);
-    put_number(out, lines, b"left ", left)
+    let first = put_number(out, 0, b"leading ", compared.leading);
+    let lines = put_lines(out, first, &list[..compared.differing as usize]);
+    put_number(out, lines, b"left ", compared.left)
 }
 
 // The whole text of a report, from the list that goes with it.
@@ -94,12 +89,8 @@ pub fn put_report(out: &mut [u8], report: Comparison, list: &[u64]) -> usize
     ensures { WroteWithin (report_room report) out.old 0 (report_text report list.now) out.new result }
 {
     match report {
-        Comparison::Compared {
-            leading,
-            differing,
-            left,
-        } => put_compared(out, leading, differing, left, list),
-        Comparison::Full { differing } => put_number(out, 0, b"full ", differing),
+        Ok(compared) => put_compared(out, compared, list),
+        Err(full) => put_number(out, 0, b"full ", full.differing),
     }
 }
 

@@ -1,19 +1,19 @@
 -- What is kept turn by turn is what the definition says of the logs so far: a turn's places go on where those of the turn before it stopped, and where one log is
 -- over, all of the other is left.
 -- Assumes nothing.
-use Prim.Native.Nat.{ℕ, min, ◌+◌, ◌*◌, ◌-◌, ◌/◌, ◌≤◌, ◌<◌}
-use mathlib.Core.{Path.{◌≡◌, refl, sym, ◌∙◌, ap}, Logic.{◌⊎◌, inl, inr}, Bool.{Bool, true, false}, List.{List, [], ◌∷◌, ◌++◌, append-nil}}
+use Prim.Native.Nat.{ℕ, ◌+◌, ◌-◌, ◌≤◌, ◌<◌}
+use mathlib.Core.{Path.{◌≡◌, refl, sym, ◌∙◌, ap}, Logic.{inl, inr}, Bool.{Bool, true, false}, List.{List, [], ◌∷◌, ◌++◌, append-nil}}
 use native.Mathlib.{Nat.{zero-add, add-zero}, Omega.arith}
-use borrow.Author.Tests.{leb-true, leb-false, le-leb, lt-leb}
-use lib.{ListN.{length, take, drop, length-take, length-drop, length-append}, Seq.{take_all, take-length, take-nil, take-append-le, take-append-add, length-take-le, sets-eq}}
+use borrow.Author.Tests.{leb-true, leb-false, le-leb}
+use lib.{ListN.{length, take, length-take, length-drop, length-append}, Seq.{take_all, take-length, take-nil, take-append-le, take-append-add, sets-eq}}
 use Rattle.std.specs.Prelude.{if◌then◌else◌}
-use Rattle.rules.{specs.Tests.{◌≤?◌}, specs.Bytes.{zeros, splice}, specs.Log.record_at, proofs.page.Compared.{as_many, request_T06}, proofs.page.Places.as_long}
-use Rattle.rules.specs.Compare.{compared, beyond, places_in, Difference, places, leading, differences, left, comparison, entries, list_room, list_after, comparison_text, compare_text}
-use Rattle.rules.specs.declared.{Comparison.Comparison, Comparison.TheVariants.{Compared, Full}}
-use Rattle.compare_places.{specs.declared.SoFar.SoFar, specs.SoFar.{none_places, part_counted, part_listed}, proofs.Joined.{whole_counted, whole_listed, last_counted, last_listed}}
+use Rattle.rules.{specs.Tests.{◌≤?◌}, specs.Bytes.{zeros, splice}, proofs.page.Compared.{as_many, request_T06}}
+use Rattle.rules.specs.Compare.{compared, beyond, places, leading, differences, left, comparison, entries, list_room, list_after, comparison_text, compare_text}
+use Rattle.compare_places.{specs.declared.SoFar.SoFar, specs.SoFar.{part_counted, part_listed}, proofs.Joined.{whole_counted, whole_listed, last_counted, last_listed}}
 use Rattle.compare_places.proofs.Laws.{counted_none, listed_none}
 use Rattle.compare_text.{specs.Lines.report_text, proofs.Told.text_of_report}
-use Rattle.compare_turns.specs.{declared.Told.Told, Turned.{both_have, begun, turned, turn_listed, told_of, Kept, kept_none, Parts, first_log, second_log, kept_after, Follows, SideBySide, ComparisonOfTurns, TextOfTurns}}
+use Rattle.compare_turns.specs.{Turned.{both_have, turned, turn_listed, told_of, Kept, kept_none, Parts, first_log, second_log, kept_after, Follows, SideBySide, TextOfTurns}}
+use Rattle.rules.specs.Compare.{Comparison, report, list_full}
 
 -- how a turn's parts meet what is behind them: both logs go on, or one of them is over
 data Meet (a b f s : List ℕ) : Type 0 where
@@ -223,11 +223,11 @@ text_of_turns turns t =
     differing : (kept_after kept_none turns).told.counted.differing ≡ length (differences f s)
     differing = ap (λ (k : Kept). k.told.counted.differing) is ∙ zero-add (length (differences f s))
 
-    report : told_of (kept_after kept_none turns).told ≡ comparison f s list_room
-    report =
+    told_is : told_of (kept_after kept_none turns).told ≡ comparison f s list_room
+    told_is =
         ap (λ (k : Kept). told_of k.told) is
-        ∙ ap (λ (n : ℕ). if n ≤? list_room then Compared (leading f s) n (0 + left f s) else Full n) (zero-add (length (differences f s)))
-        ∙ ap (λ (n : ℕ). if length (differences f s) ≤? list_room then Compared (leading f s) (length (differences f s)) n else Full (length (differences f s))) (zero-add (left f s))
+        ∙ ap (λ (n : ℕ). if n ≤? list_room then report (leading f s) n (0 + left f s) else list_full n) (zero-add (length (differences f s)))
+        ∙ ap (λ (n : ℕ). if length (differences f s) ≤? list_room then report (leading f s) (length (differences f s)) n else list_full (length (differences f s))) (zero-add (left f s))
 
     listed : length (differences f s) ≤ list_room → (kept_after kept_none turns).list ≡ list_after f s (zeros list_room)
     listed h =
@@ -238,10 +238,10 @@ text_of_turns turns t =
 
     go : (t : Bool) → (length (differences f s) ≤? list_room) ≡ t → report_text (told_of (kept_after kept_none turns).told) (kept_after kept_none turns).list ≡ compare_text f s
     go true e =
-        ap (λ (r : Comparison). report_text r (kept_after kept_none turns).list) report
+        ap (λ (r : Comparison). report_text r (kept_after kept_none turns).list) told_is
         ∙ ap (report_text (comparison f s list_room)) (listed (leb-true (length (differences f s)) list_room e))
         ∙ text_of_report f s (zeros list_room)
     go false e =
-        let full : comparison f s list_room ≡ Full (length (differences f s)) = (request_T06 f s).full list_room (leb-false (length (differences f s)) list_room e) in
-        ap (λ (r : Comparison). report_text r (kept_after kept_none turns).list) (report ∙ full)
+        let full : comparison f s list_room ≡ list_full (length (differences f s)) = (request_T06 f s).full list_room (leb-false (length (differences f s)) list_room e) in
+        ap (λ (r : Comparison). report_text r (kept_after kept_none turns).list) (told_is ∙ full)
         ∙ ap (λ (r : Comparison). comparison_text r (differences f s)) (sym full)

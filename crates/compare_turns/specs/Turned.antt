@@ -5,12 +5,12 @@ use mathlib.Core.{Path.◌≡◌, Logic.◌⊎◌, List.{List, [], ◌∷◌, �
 use Rattle.std.specs.Prelude.{length, take}
 use Rattle.std.specs.Prelude.{if◌then◌else◌}
 use Rattle.rules.specs.{Tests.{◌≤?◌}, Bytes.zeros}
-use Rattle.rules.specs.Compare.{places, leading, differences, left, entries, list_room, list_after, compare_text}
-use Rattle.rules.specs.declared.{Comparison.Comparison, Comparison.TheVariants.{Compared, Full}}
+use Rattle.rules.specs.Compare.{places, leading, differences, left, list_room, list_after, compare_text}
 use Rattle.program_logs.specs.Turns.{part_size}
-use Rattle.compare_places.{specs.declared.SoFar.SoFar, specs.SoFar.{none_places, part_counted, part_listed}}
+use Rattle.compare_places.{specs.SoFar.{none_places, part_counted, part_listed}}
 use Rattle.compare_text.specs.Lines.{report_text}
 use Rattle.compare_turns.specs.declared.Told.{Told}
+use Rattle.rules.specs.Compare.{Comparison, report, list_full}
 
 -- the room for the text: 1,000 lines of at most 64 bytes, and two more
 abbrev pub text_room : ℕ
@@ -45,7 +45,7 @@ turn_listed t a b first second list = part_listed t.counted (take (both_have fir
 
 -- the report, with a list that holds 1,000 places
 abbrev pub told_of : Told → Comparison
-told_of t = if t.counted.differing ≤? list_room then Compared t.counted.leading t.counted.differing t.left else Full t.counted.differing
+told_of t = if t.counted.differing ≤? list_room then report t.counted.leading t.counted.differing t.left else list_full t.counted.differing
 
 -- what is kept: what was told, and the list
 pub record Kept : Type 0 where

@@ -2,128 +2,116 @@
 // that memory does not grow with them. What cannot be read or written is named on standard error, and nothing is printed of it.
 #![tactic(auto)]
 
-ghost use Rattle.std.specs.Prelude.{◌≤◌, ◌<◌, ◌≡◌, length};
-ghost use Rattle.program_logs.specs.Turns.{part_size};
-ghost use Rattle.compare_turns.specs.Turned.{text_room};
+ghost use Rattle.std.specs.Prelude.{◌≤◌, ◌<◌, ◌≡◌};
+ghost use Rattle.program_logs.specs.Standing.{part_size};
 
 use compare_turns::{PLACES, TEXT, TURNS, Told};
-use program_files::{Filled, Log, PART, System};
+use program_files::{Log, PART, System, Unwritten};
 use program_logs::NAME;
 use std::process::ExitCode;
 
-// What was told of two logs, and which of them could not be read to its end.
+// One of the two logs, its name, and how much of the buffer its last part fills: all of it before the first.
 #[derive(Drop)]
-struct Went {
-    told: Told,
-    first: bool,
-    second: bool,
+struct Side<'a> {
+    log: Log,
+    name: &'a [u8],
+    part: [u8; PART],
+    have: usize,
+    ghost fits: { have ≤ 65280 },
 }
 
-// The next part of a log. Where the part before it did not fill the buffer the log is over, and is not asked again.
-fn next_part<R: System>(rt: &R, log: &mut Log, buf: &mut [u8; PART], before: usize) -> Filled
-    ensures have_le_part_size { result.have ≤ part_size }
-    ensures have_value { before < part_size → result.have ≡ 0 }
-{
-    if before < PART {
-        return Filled {
-            have: 0,
-            failed: false,
-        };
+impl Side<'_> {
+    // Whether the last part did not fill the buffer.
+    fn is_over(&self) -> bool {
+        self.have < PART
     }
-    program_files::fill(rt, log, buf)
+
+    // The next part, and whether it could be read. A log that is over is not asked again. What cannot be read is named on standard error.
+    fn next<R: System>(&mut self, rt: &R) -> bool
+        ensures { self.old.have < part_size → self.new.have ≡ 0 }
+    {
+        if self.have < PART {
+            self.have = 0;
+            return true;
+        }
+        match program_files::fill(rt, &mut self.log, &mut self.part) {
+            Ok(have) => {
+                self.have = have;
+                true
+            }
+            Err(broken) => {
+                program_files::fail(rt, self.name, &broken.reason);
+                false
+            }
+        }
+    }
 }
 
-// Reads both logs side by side to their ends.
+// What is told of two logs that are read side by side to their ends; nothing where one cannot be read so far.
 fn go_through<R: System>(
     rt: &R,
-    first: &mut Log,
-    second: &mut Log,
-    a: &mut [u8; PART],
-    b: &mut [u8; PART],
+    first: &mut Side,
+    second: &mut Side,
     list: &mut [u64; PLACES],
-) -> Went {
-    let mut told = compare_turns::begin();
-    let mut one = PART;
-    let mut two = PART;
-    let mut turns = TURNS;
-    while turns > 0 {
-        let of_first = next_part(rt, first, a, one);
-        let of_second = next_part(rt, second, b, two);
-        if of_first.failed | of_second.failed {
-            return Went {
-                told,
-                first: of_first.failed,
-                second: of_second.failed,
-            };
+) -> Option<Told> {
+    let mut told = Told::begin();
+    for turn in 0..TURNS {
+        let first_read = first.next(rt);
+        let second_read = second.next(rt);
+        if !first_read || !second_read {
+            return None;
         }
-        one = of_first.have;
-        two = of_second.have;
-        told = compare_turns::turn(told, a, one, b, two, list, turns);
-        if (one < PART) & (two < PART) {
-            return Went {
-                told,
-                first: false,
-                second: false,
-            };
+        told = told.turn(
+            &first.part[..first.have],
+            &second.part[..second.have],
+            list,
+            TURNS - turn,
+        );
+        if first.is_over() && second.is_over() {
+            return Some(told);
         }
-        turns -= 1;
     }
-    Went {
-        told,
-        first: false,
-        second: false,
-    }
+    Some(told)
 }
 
-// Writes the front of a buffer out.
-fn write<R: System>(rt: &R, out: &[u8], end: usize) -> ExitCode
-    requires { end ≤ length out.now }
-{
-    let shown = program_files::show(rt, out, end);
-    program_files::status(shown.closed)
-}
-
-// Writes the text of the report out.
-fn show<R: System>(rt: &R, out: &mut [u8; TEXT], told: Told, list: &[u64; PLACES]) -> ExitCode {
-    let end = compare_turns::put(out, told, list);
-    write(rt, out, end)
+// Compares the two logs, and writes the text of the report out.
+fn compare<R: System>(rt: &R, first: &mut Side, second: &mut Side) -> Result<(), Unwritten> {
+    let mut list = [0u64; PLACES];
+    let Some(told) = go_through(rt, first, second, &mut list) else {
+        return Ok(());
+    };
+    let mut out = [0u8; TEXT];
+    let end = told.put(&mut out, &list);
+    program_files::show(rt, &out[..end])
 }
 
 fn main(rt: HostRuntime) -> ExitCode {
-    let mut a = [0u8; PART];
-    let mut b = [0u8; PART];
     let mut name = [0u8; NAME];
     let mut other = [0u8; NAME];
-    let mut list = [0u64; PLACES];
-    let mut out = [0u8; TEXT];
     if program_files::arg_count(&rt) != 3 {
         rt.say(b"wants two logs\n");
         return ExitCode::SUCCESS;
     }
-    let mut first = program_files::open_log(&rt, 1, &mut name);
-    if !program_files::is_open(&first.log) {
+    let Some(first) = program_files::open_log(&rt, 1, &mut name) else {
         return ExitCode::SUCCESS;
-    }
-    let mut second = program_files::open_log(&rt, 2, &mut other);
-    if !program_files::is_open(&second.log) {
+    };
+    let Some(second) = program_files::open_log(&rt, 2, &mut other) else {
         return ExitCode::SUCCESS;
+    };
+    let mut first = Side {
+        log: first.log,
+        name: first.name,
+        part: [0u8; PART],
+        have: PART,
+    };
+    let mut second = Side {
+        log: second.log,
+        name: second.name,
+        part: [0u8; PART],
+        have: PART,
+    };
+    match compare(&rt, &mut first, &mut second) {
+        Ok(()) => ExitCode::SUCCESS,
+        Err(unwritten) => ExitCode::from(unwritten),
     }
-    let went = go_through(
-        &rt,
-        &mut first.log,
-        &mut second.log,
-        &mut a,
-        &mut b,
-        &mut list,
-    );
-    if went.first {
-        program_files::fail_log(&rt, &first.log, &name, first.size);
-    }
-    if went.second {
-        program_files::fail_log(&rt, &second.log, &other, second.size);
-    }
-    if went.first | went.second {
-        return ExitCode::SUCCESS;
-    }
-    show(&rt, &mut out, went.told, &list)
 }

@@ -1,10 +1,11 @@
 -- The decoding functions against the definitions, over plain values.
 -- Assumes nothing.
-use mathlib.Core.{Path.{◌≡◌, refl, ◌∙◌, ap}, Bool.{Bool, ◌&&◌}, List.List}
+use mathlib.Core.{Path.{◌≡◌, refl, sym, ◌∙◌, ap}, Bool.{Bool, true, false, ◌&&◌}, List.List}
 use Prim.Native.Nat.{ℕ}
 use lib.{Dec.{leb, eqb}, ListN.{length, take, drop}}
-use Rattle.rules.{specs.Bytes.{number_at, zeros?}, specs.declared.Phase.Phase, specs.declared.Security.Security, specs.declared.Reading.Reading}
-use Rattle.device_bytes.specs.Encoding.{phase_of, record?, security_in, reading_in, record_of}
+use Rattle.rules.{specs.Bytes.{number_at, zeros?}, specs.declared.Phase.Phase, specs.declared.Security.Security, specs.declared.Reading.Reading, specs.declared.Device.Device}
+use Rattle.std.specs.Array.{IsWholeChunk}
+use Rattle.device_bytes.{specs.Encoding.{phase_of, record?, security_in, reading_in, record_of, impossible, decode_of}, proofs.Fine.fine}
 
 pub tested : (s : List ℕ) {phase enabled locked frozen unused : ℕ} {between after : Bool} → length s ≡ 128
     → phase ≡ number_at 1 0 s → enabled ≡ number_at 1 1 s → locked ≡ number_at 1 2 s → frozen ≡ number_at 1 3 s → unused ≡ number_at 1 33 s
@@ -12,11 +13,6 @@ pub tested : (s : List ℕ) {phase enabled locked frozen unused : ℕ} {between 
     → (leb phase 4 && leb enabled 1 && leb locked 1 && leb frozen 1 && eqb unused 0 && between && after) ≡ record? s
 unfolding record?
 tested s h p q r t u v w = rw (p, q, r, t, u, v, w, h) refl
-
-pub secured : (s : List ℕ) {enabled locked frozen attempts : ℕ} {pass : List ℕ} → pass ≡ take 32 (drop 64 s)
-    → enabled ≡ number_at 1 1 s → locked ≡ number_at 1 2 s → frozen ≡ number_at 1 3 s → attempts ≡ number_at 1 4 s
-    → record { enabled = eqb enabled 1; locked = eqb locked 1; frozen = eqb frozen 1; attempts = attempts; passphrase = pass } ≡ security_in s
-secured s e64 e1 e2 e3 e4 = λ i. record { enabled = eqb (e1 i) 1; locked = eqb (e2 i) 1; frozen = eqb (e3 i) 1; attempts = e4 i; passphrase = e64 i }
 
 pub read : (s : List ℕ) {phase current received ticks running staged reason faulty enable spare media controller trips : ℕ} {p : Phase} {security : Security} {reading : Reading}
     → phase ≡ number_at 1 0 s → p ≡ phase_of phase → current ≡ number_at 4 8 s → received ≡ number_at 4 12 s → ticks ≡ number_at 1 5 s
@@ -39,3 +35,27 @@ read s e0 ep e8 e12 e5 e16 e24 e38 e39 e6 e32 e34 e36 e1 e40 e41 = λ i. record 
   reading = e40 i;
   trips = e41 i;
 }
+
+-- what decodes: all of the bytes, where they are a record
+pub was_record : (s bytes : List ℕ) {tested : Bool} {d : Device} → IsWholeChunk s bytes 128 → tested ≡ record? bytes → tested ≡ true → d ≡ record_of bytes → d ≡ decode_of s
+unfolding decode_of
+was_record s bytes w e t p =
+    let whole : record? s ≡ true = ap record? (sym w.same) ∙ sym e ∙ t in
+    rw whole (p ∙ ap record_of w.same)
+
+pub was_none : (s bytes : List ℕ) {tested : Bool} {d : Device} → IsWholeChunk s bytes 128 → tested ≡ record? bytes → tested ≡ false → d ≡ impossible → d ≡ decode_of s
+unfolding decode_of
+was_none s bytes w e t p =
+    let whole : record? s ≡ false = ap record? (sym w.same) ∙ sym e ∙ t in
+    rw whole p
+
+-- bytes that are not 128
+no_length : (s : List ℕ) (t : Bool) → (length s ≡ 128 → ⊥) → record? s ≡ t → t ≡ false
+no_length s true h q = absurd (h (fine s q).long)
+no_length s false h q = refl
+
+pub not_whole : (s : List ℕ) {d : Device} → (length s ≡ 128 → ⊥) → d ≡ impossible → d ≡ decode_of s
+unfolding decode_of
+not_whole s h p =
+    let none : record? s ≡ false = no_length s (record? s) h refl in
+    rw none p

@@ -6,6 +6,7 @@ ghost use Rattle.std.specs.Prelude.{◌≡◌, ◌++◌, length};
 ghost use Rattle.rules.specs.Bytes.{splice, zeros};
 ghost use Rattle.device_bytes.specs.Encoding.{encoded_size, state_bytes, first_bytes, transfer_bytes, encoded_thresholds, fault_bytes, reading_bytes, encode_of};
 
+use bytes_base::ToBytes;
 use rules::{Device, Reading, Security, Thresholds, Transfer};
 
 // How many bytes a record has.
@@ -15,10 +16,10 @@ fn put_state(s: Security, out: &mut [u8])
     requires { length out.old ≡ encoded_size }
     ensures { out.new ≡ splice 1 (state_bytes s) out.old }
 {
-    bytes_base::put_at(out, 1, 1, s.enabled as u64);
-    bytes_base::put_at(out, 2, 1, s.locked as u64);
-    bytes_base::put_at(out, 3, 1, s.frozen as u64);
-    bytes_base::put_at(out, 4, 1, s.attempts as u64);
+    (s.enabled as u8).put(out, 1);
+    (s.locked as u8).put(out, 2);
+    (s.frozen as u8).put(out, 3);
+    s.attempts.put(out, 4);
 }
 
 fn put_first(d: Device, out: &mut [u8])
@@ -26,49 +27,48 @@ fn put_first(d: Device, out: &mut [u8])
     ensures { out.new ≡ splice 0 (first_bytes d) out.old }
 {
     let t = d.transfer;
-    let p = t.phase;
-    bytes_base::put_at(out, 0, 1, device_phase::phase_number(p) as u64);
+    u8::from(t.phase).put(out, 0);
     put_state(d.security, out);
-    bytes_base::put_at(out, 5, 1, t.ticks as u64);
-    bytes_base::put_at(out, 6, 2, d.thresholds.enable as u64);
+    t.ticks.put(out, 5);
+    d.thresholds.enable.put(out, 6);
 }
 
 fn put_transfer(t: Transfer, out: &mut [u8])
     requires { length out.old ≡ encoded_size }
     ensures { out.new ≡ splice 8 (transfer_bytes t) out.old }
 {
-    bytes_base::put_at(out, 8, 4, t.current as u64);
-    bytes_base::put_at(out, 12, 4, t.received as u64);
-    bytes_base::put_at(out, 16, 8, t.running);
-    bytes_base::put_at(out, 24, 8, t.staged);
+    t.current.put(out, 8);
+    t.received.put(out, 12);
+    t.running.put(out, 16);
+    t.staged.put(out, 24);
 }
 
 fn put_thresholds(h: Thresholds, out: &mut [u8])
     requires { length out.old ≡ encoded_size }
     ensures { out.new ≡ splice 32 (encoded_thresholds h) out.old }
 {
-    bytes_base::put_at(out, 32, 1, h.spare as u64);
-    bytes_base::put_at(out, 33, 1, 0);
-    bytes_base::put_at(out, 34, 2, h.media as u64);
-    bytes_base::put_at(out, 36, 2, h.controller as u64);
+    h.spare.put(out, 32);
+    bytes_base::put_zeros(out, 33, 1);
+    h.media.put(out, 34);
+    h.controller.put(out, 36);
 }
 
 fn put_fault(t: Transfer, out: &mut [u8])
     requires { length out.old ≡ encoded_size }
     ensures { out.new ≡ splice 38 (fault_bytes t) out.old }
 {
-    bytes_base::put_at(out, 38, 1, t.reason as u64);
-    bytes_base::put_at(out, 39, 1, t.faulty as u64);
+    t.reason.put(out, 38);
+    t.faulty.put(out, 39);
 }
 
 fn put_reading(r: Reading, trips: u8, out: &mut [u8])
     requires { length out.old ≡ encoded_size }
     ensures { out.new ≡ splice 40 (reading_bytes r trips) out.old }
 {
-    bytes_base::put_at(out, 40, 1, r.spare as u64);
-    bytes_base::put_at(out, 41, 1, trips as u64);
-    bytes_base::put_at(out, 42, 2, r.media as u64);
-    bytes_base::put_at(out, 44, 2, r.controller as u64);
+    r.spare.put(out, 40);
+    trips.put(out, 41);
+    r.media.put(out, 42);
+    r.controller.put(out, 44);
 }
 
 fn put_passphrase(s: Security, out: &mut [u8])
@@ -76,7 +76,7 @@ fn put_passphrase(s: Security, out: &mut [u8])
     ensures { out.new ≡ splice 64 (s.passphrase ++ zeros 32) out.old }
 {
     bytes_base::copy_at(out, 64, &s.passphrase);
-    bytes_base::put_at(out, 96, 32, 0);
+    bytes_base::put_zeros(out, 96, 32);
 }
 
 // Writes the record's bytes over 128 bytes, straight into where they are kept.
@@ -89,7 +89,7 @@ pub fn put(d: Device, out: &mut [u8])
     put_thresholds(d.thresholds, out);
     put_fault(d.transfer, out);
     put_reading(d.reading, d.trips, out);
-    bytes_base::put_at(out, 46, 18, 0);
+    bytes_base::put_zeros(out, 46, 18);
     put_passphrase(d.security, out);
 }
 

@@ -2,18 +2,18 @@
 // parts by itself, and its trips byte. And whether it was possible when the module was alone.
 #![tactic(auto)]
 
-ghost use Rattle.std.specs.Prelude.{◌≡◌, length};
+ghost use Rattle.std.specs.Prelude.{◌≡◌};
 ghost use Rattle.rules.specs.Bytes.{zeros?};
 ghost use Rattle.rules.specs.Adopt.{no_reading, possible_alone, possible_parts_alone, possible_before, kept_before};
 ghost use Rattle.rules.specs.Record.{possible, possible_current, possible_numbers, possible_fault, possible_transfer, possible_security, possible_thresholds, possible_reading, possible_parts, possible_trips};
 
-use rules::{AREA_SIZE, ATTEMPT_LIMIT, Device, Reading, Security, Thresholds, Transfer};
+use bytes_numbers::FromBytes;
+use rules::{AREA_SIZE, ATTEMPT_LIMIT, Device, Phase, Reading, Security, Thresholds, Transfer};
 
 fn possible_current(t: Transfer, given: u32) -> bool
     ensures { result ≡ possible_current given t }
 {
-    let p = t.phase;
-    let idle = device_phase::phase_number(p) == 0;
+    let idle = matches!(t.phase, Phase::Idle);
     (t.current <= given) & (idle | (1 <= t.current))
 }
 
@@ -21,11 +21,9 @@ fn possible_current(t: Transfer, given: u32) -> bool
 fn possible_numbers(t: Transfer) -> bool
     ensures { result ≡ possible_numbers t }
 {
-    let p = t.phase;
-    let n = device_phase::phase_number(p);
-    let begun = !(n == 0) as u32;
-    let verifying = n == 2;
-    let staged = n == 3;
+    let begun = !matches!(t.phase, Phase::Idle) as u32;
+    let verifying = matches!(t.phase, Phase::Verifying);
+    let staged = matches!(t.phase, Phase::Staged);
     (t.received <= begun * AREA_SIZE as u32)
         & (verifying as u8 <= t.ticks)
         & (t.ticks <= verifying as u8 * 8)
@@ -35,8 +33,7 @@ fn possible_numbers(t: Transfer) -> bool
 fn possible_fault(t: Transfer) -> bool
     ensures { result ≡ possible_fault t }
 {
-    let p = t.phase;
-    let failed = device_phase::phase_number(p) == 4;
+    let failed = matches!(t.phase, Phase::Failed);
     (t.reason <= 5) & ((1 <= t.reason) == failed) & (t.faulty <= failed as u8 * 127)
 }
 
@@ -47,15 +44,14 @@ fn possible_transfer(t: Transfer, given: u32) -> bool
     possible_current(t, given) & possible_numbers(t) & possible_fault(t)
 }
 
-// 32 bytes are zero, by four numbers and not byte by byte: a record that is judged stays whole words.
-fn all_zero(passphrase: &[u8]) -> bool
-    requires { length passphrase.now ≡ 32 }
+// 32 bytes are zero, by four words, and not byte by byte: a record that is judged stays whole words.
+fn all_zero(passphrase: &[u8; 32]) -> bool
     ensures { result ≡ zeros? passphrase.now }
 {
-    (bytes_numbers::long(passphrase, 0) == 0)
-        & (bytes_numbers::long(passphrase, 8) == 0)
-        & (bytes_numbers::long(passphrase, 16) == 0)
-        & (bytes_numbers::long(passphrase, 24) == 0)
+    (u64::read(passphrase, 0) == 0)
+        & (u64::read(passphrase, 8) == 0)
+        & (u64::read(passphrase, 16) == 0)
+        & (u64::read(passphrase, 24) == 0)
 }
 
 #[tactic(auto, unfolding(rules::specs::Record::possible_security))]

@@ -2,15 +2,19 @@
 -- Assumes nothing.
 use mathlib.Core.{Path.{◌≡◌, refl, sym, ◌∙◌, ap, subst}, Bool.{Bool, true, false, ◌&&◌}, List.List}
 use Prim.Native.Nat.{ℕ, zero, suc, ◌+◌, ◌-◌, ◌*◌, ◌/◌, ◌≤◌, ◌<◌}
-use native.Mathlib.{Nat.{add-sub_cancel_left}, Omega.arith}
-use lib.{ListN.{length, take, drop, length-drop}, Seq.{drop-drop, length-take-le}}
+use native.Mathlib.{Omega.arith}
+use lib.{ListN.{length, take, drop}, Seq.{drop-drop, length-take-le}}
 use Rattle.rules.{specs.Image.{good_record, good_size, version_of}, specs.Fault.{Fault, none, ◌of_record◌, record_fault, ◌or_else◌, records_fault, first_fault, judged, image_of, image_record}}
 use Rattle.std.specs.Prelude.{if◌then◌else◌}
-use Rattle.rules.{specs.Tests.{◌=?◌}, specs.declared.Reason.Reason, specs.declared.Reason.TheVariants.Size, specs.declared.Image.TheVariants.{Good, Bad}}
+use Rattle.rules.{specs.Tests.{◌=?◌}, specs.declared.Reason.TheVariants.Size}
+use Rattle.rules.proofs.page.Images.{Sized, good_size_law}
+use borrow.Author.Tests.{eq-eqb, le-leb}
 use Rattle.rules.proofs.page.Faults.{good_clean, bad_unclean, zero_unclean}
 use Rattle.rules.{specs.Bytes.AreBytes, proofs.page.Le.{drop_bytes, take_bytes}, proofs.page.Choice.and_true}
 use Rattle.image_record.{specs.Front.{front_of, good_behind}, proofs.Fronts.front_tests}
-use Rattle.image_check.specs.Walk.{first_bad}
+use Rattle.image_check.specs.Walk.{first_bad, Left}
+use Rattle.rules.specs.Fault.{bad_image}
+use Rattle.std.specs.Prelude.{Ok}
 
 -- the records after number i begin where it ends
 next : (i : ℕ) (bytes : List ℕ) → drop 128 (drop (i * 128) bytes) ≡ drop ((i + 1) * 128) bytes
@@ -29,81 +33,93 @@ fault_on : (records i n version : ℕ) (bytes : List ℕ) → records_fault (suc
 unfolding records_fault
 fault_on records i n version bytes = rw (next i bytes)
 
--- record i, as the part of the slice that is handed on
-part_is_record : (i : ℕ) (bytes : List ℕ) → image_record i bytes ≡ take (i * 128 + 128 - i * 128) (drop (i * 128) bytes)
-part_is_record i bytes = ap (λ (k : ℕ). take k (drop (i * 128) bytes)) (sym (add-sub_cancel_left (i * 128) 128))
+-- the walk begins with all records
+pub all_left : (n version : ℕ) (bytes : List ℕ) → length bytes ≡ n * 128 → Left n version bytes bytes
+all_left n version bytes long =
+    let all : length bytes / 128 ≡ n = omega (arith, long) in
+    let first : n - length bytes / 128 ≡ 0 = omega (arith, all) in
+    record {
+      whole = omega (arith, long);
+      few = omega (arith, all);
+      part = ap (λ (i : ℕ). drop (i * 128) bytes) (sym first);
+      same = λ k. first_bad (all k) (first k) n version bytes;
+    }
 
--- that part has the record's fault
-pub part_has_fault : (i n version : ℕ) (bytes : List ℕ) → (record_fault i n version (image_record i bytes) ≡ none → ⊥)
-    → record_fault i n version (take (i * 128 + 128 - i * 128) (drop (i * 128) bytes)) ≡ none → ⊥
-part_has_fault i n version bytes h = rw (← part_is_record i bytes) h
+-- one record split off from what is left: it is good, and the walk goes on behind it; or it is not, and the walk ends there
+module _ {n version : ℕ} {left bytes record' after : List ℕ} (l : Left n version left bytes)
+    (split : (record' ≡ take 128 left) × (after ≡ drop 128 left) × (length after + 128 ≡ length left))
+  where
+    abbrev number : ℕ
+    number = n - length left / 128
 
-pub part_decides : (i n version : ℕ) (bytes : List ℕ) {reason : Reason} → record_fault i n version (take (i * 128 + 128 - i * 128) (drop (i * 128) bytes)) ≡ (reason of_record i)
-    → Bad reason i ≡ judged (record_fault i n version (image_record i bytes)) version
-part_decides i n version bytes fault = rw (part_is_record i bytes, fault)
+    one_more : length left / 128 ≡ suc (length after / 128)
+    one_more = omega (arith, split.2)
 
--- the loop, at record i: the first bad one of those left is that of the whole
-module _ (n version i : ℕ) (bytes : List ℕ) (whole : first_bad (n - i) i n version (drop (i * 128) bytes) ≡ first_bad n 0 n version bytes) where
-  here : i < n → {good : Bool} → good_record i n version (take (i * 128 + 128 - i * 128) (drop (i * 128) bytes)) ≡ good
-      → (if good then first_bad (n - (i + 1)) (i + 1) n version (drop ((i + 1) * 128) bytes) else i) ≡ first_bad n 0 n version bytes
-  here h e =
-      let left : n - i ≡ suc (n - (i + 1)) = omega arith in
-      let one = bad_on (n - (i + 1)) i n version bytes in
-      rw (← e, ← part_is_record i bytes, ← one, ← left) whole
+    pub is_one : number < n
+    is_one = omega (arith, one_more, l.few)
 
-  pub good_record_goes_on : i < n → good_record i n version (take (i * 128 + 128 - i * 128) (drop (i * 128) bytes)) ≡ true
-      → first_bad (n - (i + 1)) (i + 1) n version (drop ((i + 1) * 128) bytes) ≡ first_bad n 0 n version bytes
-  good_record_goes_on h good = here h good
+    pub next_number : number + 1 ≡ n - length after / 128
+    next_number = omega (arith, one_more, l.few)
 
-  pub bad_record_decides : i < n → good_record i n version (take (i * 128 + 128 - i * 128) (drop (i * 128) bytes)) ≡ false → i ≡ first_bad n 0 n version bytes
-  bad_record_decides h bad = here h bad
+    here : {good : Bool} → good_record number n version record' ≡ good
+        → (if good then first_bad (length after / 128) (number + 1) n version after else number) ≡ first_bad n 0 n version bytes
+    unfolding first_bad
+    here {good} e =
+        let one : first_bad (length left / 128) number n version left ≡ first_bad (suc (length after / 128)) number n version left =
+        ap (λ (k : ℕ). first_bad k number n version left) one_more in
+        (λ k. if sym e k then first_bad (length after / 128) (number + 1) n version (split.1 k) else number)
+        ∙ ap (λ (r : List ℕ). if good_record number n version r then first_bad (length after / 128) (number + 1) n version (drop 128 left) else number) split.0
+        ∙ sym one ∙ l.same
 
-  pub no_record_left : i ≡ n → i ≡ first_bad n 0 n version bytes
-  unfolding first_bad
-  no_record_left h =
-      let none_left : n - i ≡ 0 = omega arith in
-      rw none_left at whole
+    pub goes_on : true ≡ good_record number n version record' → Left n version after bytes
+    goes_on good =
+        let next = next_number in
+        let place : number * 128 + 128 ≡ (n - length after / 128) * 128 = omega (arith, next) in
+        record {
+          whole = omega (arith, l.whole, split.2);
+          few = omega (arith, one_more, l.few);
+          part = split.1 ∙ ap (drop 128) l.part ∙ drop-drop 128 (number * 128) bytes ∙ ap (λ (at : ℕ). drop at bytes) place;
+          same = ap (λ (k : ℕ). first_bad (length after / 128) k n version after) (sym next) ∙ here (sym good);
+        }
 
--- a record that was tested by its front, as the part of the slice that was handed on, is good
-module _ (n version : ℕ) (bytes : List ℕ) (few : n < 65536) (are : AreBytes bytes) (long : length bytes ≡ n * 128) where
-  good_there : (i at front : ℕ) → i < n → at ≡ i * 128 → front ≡ front_of i n version
-      → good_behind front version (take (at + 128 - at) (drop at bytes)) ≡ true
-      → good_record i n version (take (i * 128 + 128 - i * 128) (drop (i * 128) bytes)) ≡ true
-  good_there i at front one place front_is good =
-      let size : i * 128 + 128 - i * 128 ≡ 128 = omega arith in
-      let left : 128 ≤ length (drop (i * 128) bytes) = rw length-drop (omega (arith, long, one)) in
-      let part_long = length-take-le (i * 128 + 128 - i * 128) (drop (i * 128) bytes) (rw size left) in
-      let by_front : good_behind front version (take (at + 128 - at) (drop at bytes))
-      ≡ good_behind (front_of i n version) version (take (i * 128 + 128 - i * 128) (drop (i * 128) bytes)) =
-      λ k. good_behind (front_is k) version (take (place k + 128 - place k) (drop (place k) bytes)) in
-      sym (front_tests i n version _ (take_bytes (i * 128 + 128 - i * 128) (drop (i * 128) bytes) (drop_bytes (i * 128) bytes are)) (omega (arith, part_long, size)) (omega (arith, one, few)) few)
-      ∙ sym by_front ∙ good
+    pub ends_here : false ≡ good_record number n version record' → number ≡ first_bad n 0 n version bytes
+    ends_here bad = here (sym bad)
 
-  -- where two of them are, the first bad one of those left is still that of the whole
-  two_good : (i at front : ℕ) → i + 1 < n → at ≡ i * 128 → front ≡ front_of i n version
-      → first_bad (n - i) i n version (drop (i * 128) bytes) ≡ first_bad n 0 n version bytes
-      → good_behind front version (take (at + 128 - at) (drop at bytes)) ≡ true
-      → good_behind (front + 1) version (take (at + 128 + 128 - (at + 128)) (drop (at + 128) bytes)) ≡ true
-      → first_bad (n - (i + 1 + 1)) (i + 1 + 1) n version (drop ((i + 1 + 1) * 128) bytes) ≡ first_bad n 0 n version bytes
-  two_good i at front room place front_is whole one_good other_good =
-      let one : i < n = omega (arith, room) in
-      let first = good_record_goes_on n version i bytes whole one (good_there i at front one place front_is one_good) in
-      let next_place : at + 128 ≡ (i + 1) * 128 = omega (arith, place) in
-      let next_front : front + 1 ≡ front_of (i + 1) n version = omega (arith, front_is) in
-      good_record_goes_on n version (i + 1) bytes first room (good_there (i + 1) (at + 128) (front + 1) room next_place next_front other_good)
+    pub its_record : record' ≡ image_record number bytes
+    its_record = split.0 ∙ ap (take 128) l.part
 
-  -- so a turn of two records goes on from the place behind them
-  pub two_good_go_on : (at front : ℕ) → at ≡ at / 256 * 256 → at < n / 2 * 256 → front ≡ front_of (at / 128) n version
-      → first_bad (n - at / 128) (at / 128) n version (drop (at / 128 * 128) bytes) ≡ first_bad n 0 n version bytes
-      → (good_behind front version (take (at + 128 - at) (drop at bytes))
-      && good_behind (front + 1) version (take (at + 128 + 128 - (at + 128)) (drop (at + 128) bytes))) ≡ true
-      → (front + 2 ≡ front_of ((at + 128 + 128) / 128) n version)
-      × (first_bad (n - (at + 128 + 128) / 128) ((at + 128 + 128) / 128) n version (drop ((at + 128 + 128) / 128 * 128) bytes) ≡ first_bad n 0 n version bytes)
-  two_good_go_on at front place room front_is whole good =
-      let both = and_true (good_behind front version (take (at + 128 - at) (drop at bytes))) _ good in
-      let next : (at + 128 + 128) / 128 ≡ at / 128 + 1 + 1 = omega arith in
-      let later = two_good (at / 128) at front (omega (arith, place, room)) (omega (arith, place)) front_is whole both.0 both.1 in
-      (omega (arith, front_is, next), ap (λ (i : ℕ). first_bad (n - i) i n version (drop (i * 128) bytes)) next ∙ later)
+-- where no record is left, none is bad
+pub none_left : {n version : ℕ} {left bytes : List ℕ} → Left n version left bytes → length left < 128 → first_bad n 0 n version bytes ≡ n
+unfolding first_bad
+none_left {n} {version} {left} l short =
+    let no_records : length left / 128 ≡ 0 = omega (arith, short) in
+    let all : n - 0 ≡ n = omega arith in
+    sym l.same ∙ (λ k. first_bad (no_records k) (n - no_records k) n version left) ∙ all
+
+-- two records split off that were tested by their fronts: the walk goes on behind both
+module _ {n version front : ℕ} {left bytes first behind second after : List ℕ} (l : Left n version left bytes) (few : n < 65536) (are : AreBytes bytes)
+    (front_is : front ≡ front_of (n - length left / 128) n version)
+    (split : (first ≡ take 128 left) × (behind ≡ drop 128 left) × (length behind + 128 ≡ length left))
+    (again : (second ≡ take 128 behind) × (after ≡ drop 128 behind) × (length after + 128 ≡ length behind))
+  where
+    by_front : (i at_front : ℕ) (part whole : List ℕ) → AreBytes part → part ≡ take 128 whole → 128 ≤ length whole → i < n → at_front ≡ front_of i n version
+        → good_behind at_front version part ≡ true → true ≡ good_record i n version part
+    by_front i at_front part whole part_are part_is some one is good =
+        let long : length part ≡ 128 = ap length part_is ∙ length-take-le 128 whole some in
+        sym good ∙ ap (λ (f : ℕ). good_behind f version part) is
+        ∙ front_tests i n version part part_are (omega (arith, long)) (omega (arith, one, few)) few
+
+    record_bytes : (i : ℕ) {part : List ℕ} → part ≡ image_record i bytes → AreBytes part
+    record_bytes i e = subst AreBytes (sym e) (take_bytes 128 (drop (i * 128) bytes) (drop_bytes (i * 128) bytes are))
+
+    pub two_go_on : true ≡ (good_behind front version first && good_behind (front + 1) version second)
+        → Left n version after bytes × (front + 2 ≡ front_of (n - length after / 128) n version)
+    two_go_on good =
+        let both = and_true (good_behind front version first) _ (sym good) in
+        let one = goes_on l split (by_front _ _ _ _ (record_bytes _ (its_record l split)) split.0 (omega (arith, split.2)) (is_one l split) front_is both.0) in
+        let next : front + 1 ≡ front_of (n - length behind / 128) n version = omega (arith, front_is, next_number l split) in
+        let two = goes_on one again (by_front _ _ _ _ (record_bytes _ (its_record one again)) again.0 (omega (arith, again.2)) (is_one one again) next both.1) in
+        (two, omega (arith, next, next_number one again))
 
 -- where the walk of an image whose version is not zero stops: past its last record, and then there is no fault; or at one whose fault is the first
 data Stopped (n version k : ℕ) (bytes : List ℕ) (fault : Fault) : Type 0 where
@@ -140,9 +156,22 @@ module _ (n version : ℕ) (bytes : List ℕ) (image : version ≡ version_of by
           (at_record (omega (arith, h)) faulty refl)
 
 -- bytes of another size are bad for that
-pub bad_size : (bytes : List ℕ) → good_size bytes ≡ false → Bad Size 0 ≡ image_of bytes
+pub bad_size : (bytes : List ℕ) → good_size bytes ≡ false → bad_image Size 0 ≡ image_of bytes
 unfolding first_fault image_of
 bad_size bytes size = rw size
+
+-- and so they are where they are not 1 to 128 whole records
+pub other_size : (bytes : List ℕ) → (Sized (length bytes) → ⊥) → bad_image Size 0 ≡ image_of bytes
+other_size bytes other = go (good_size bytes) refl
+  where
+    go : (size : Bool) → good_size bytes ≡ size → bad_image Size 0 ≡ image_of bytes
+    go true e = absurd (other (good_size_law bytes e))
+    go false e = bad_size bytes e
+
+pub right_size : (bytes : List ℕ) → 128 ≤ length bytes → length bytes ≡ length bytes / 128 * 128 → length bytes / 128 ≤ 128 → good_size bytes ≡ true
+right_size bytes enough whole few =
+    let some : 1 ≤ length bytes / 128 = omega (arith, enough) in
+    rw (eq-eqb _ _ whole, le-leb 1 (length bytes / 128) some, le-leb (length bytes / 128) 128 few)
 
 -- bytes of a good size are what their records are
 module _ (bytes : List ℕ) {version : ℕ} (size : good_size bytes ≡ true) (first : version ≡ version_of bytes) where
@@ -154,34 +183,39 @@ module _ (bytes : List ℕ) {version : ℕ} (size : good_size bytes ≡ true) (f
   by_fault e = rw (size, ← first, e)
 
   -- where the version is zero, the first record has a fault, and it decides
-  pub zero_has_fault : (version =? 0) ≡ true → record_fault 0 n version (image_record 0 bytes) ≡ none → ⊥
-  zero_has_fault zero? = rw first (zero_unclean n bytes (rw (← first) zero?))
+  module _ {record' : List ℕ} (it_is : record' ≡ take 128 bytes) (zero? : (version =? 0) ≡ true) where
+    pub zero_has_fault : record_fault 0 n version record' ≡ none → ⊥
+    zero_has_fault = rw (it_is, first) (zero_unclean n bytes (rw (← first) zero?))
 
-  pub zero_decides : 1 ≤ n → (version =? 0) ≡ true → judged (record_fault 0 n version (image_record 0 bytes)) version ≡ image_of bytes
-  zero_decides some zero? =
-      let count : n ≡ suc (n - 1) = omega (arith, some) in
-      by_fault (ap (λ (k : ℕ). records_fault k 0 n version bytes) count ∙ fault_on (n - 1) 0 n version bytes ∙ or_first _ _ (zero_has_fault zero?))
+    pub zero_decides : 1 ≤ n → judged (record_fault 0 n version record') version ≡ image_of bytes
+    zero_decides some =
+        let count : n ≡ suc (n - 1) = omega (arith, some) in
+        let decides = or_first _ (records_fault (n - 1) 1 n version (drop 128 bytes)) zero_has_fault in
+        let whole : records_fault n 0 n version bytes ≡ (record_fault 0 n version record' or_else records_fault (n - 1) 1 n version (drop 128 bytes)) =
+        ap (λ (k : ℕ). records_fault k 0 n version bytes) count ∙ fault_on (n - 1) 0 n version bytes
+        ∙ ap (λ (r : List ℕ). record_fault 0 n version r or_else records_fault (n - 1) 1 n version (drop 128 bytes)) (sym it_is) in
+        by_fault (whole ∙ decides)
 
   -- where it is not, the walk decides
   module _ (nonzero : (version =? 0) ≡ false) {k : ℕ} (walked : k ≡ first_bad n 0 n version bytes) where
     stop : Stopped n version k bytes (records_fault n 0 n version bytes)
     stop = stopped_as (sym walked) refl (stops n version bytes first nonzero n 0 (omega arith))
 
-    pub walk_has_fault : k < n → record_fault k n version (image_record k bytes) ≡ none → ⊥
-    walk_has_fault l = go stop
+    pub walk_has_fault : k < n → {record' : List ℕ} → record' ≡ image_record k bytes → record_fault k n version record' ≡ none → ⊥
+    walk_has_fault l e = rw e (go stop)
       where
         go : Stopped n version k bytes (records_fault n 0 n version bytes) → record_fault k n version (image_record k bytes) ≡ none → ⊥
         go (past h e) = absurd (omega (arith, h, l))
         go (at_record h f e) = f
 
-    pub walk_decides : k < n → judged (record_fault k n version (image_record k bytes)) version ≡ image_of bytes
-    walk_decides l = by_fault (go stop)
+    pub walk_decides : k < n → {record' : List ℕ} → record' ≡ image_record k bytes → judged (record_fault k n version record') version ≡ image_of bytes
+    walk_decides l e = ap (λ (r : List ℕ). judged (record_fault k n version r) version) e ∙ by_fault (go stop)
       where
         go : Stopped n version k bytes (records_fault n 0 n version bytes) → records_fault n 0 n version bytes ≡ record_fault k n version (image_record k bytes)
         go (past h e) = absurd (omega (arith, h, l))
         go (at_record h f e) = e
 
-    pub all_good : n ≤ k → Good version ≡ image_of bytes
+    pub all_good : n ≤ k → Ok version ≡ image_of bytes
     all_good l = by_fault (go stop)
       where
         go : Stopped n version k bytes (records_fault n 0 n version bytes) → records_fault n 0 n version bytes ≡ none

@@ -10,18 +10,6 @@ use Rattle.rules.specs.Made.{parts_of, first_part, unsummed, made_record, made_r
 use Rattle.rules.{proofs.page.Le.length_le, proofs.page.Records.{sum_of_front, unsummed_long, made_long}, proofs.page.Images.{cut, records_long, one_record_more, carried_long, one_part_more}}
 use Rattle.bytes_base.proofs.Parts.{splice_splice, copy_whole, lent_as, rest}
 
--- a part copied over an array of its size is that part
-pub part_own : (part : List ℕ) {own : List ℕ} → length part ≡ 112 → own ≡ splice 0 (take 112 part) (zeros 112) → own ≡ part
-part_own part whole e =
-    let all : take 112 part ≡ part = take_all 112 part (omega (arith, whole)) in
-    e ∙ ap (λ (l : List ℕ). splice 0 l (zeros 112)) all ∙ copy_whole part (zeros 112) (omega (arith, whole))
-
--- a number's bytes in the front of an array are that number's
-pub field_own : (k number : ℕ) {own : List ℕ} → own ≡ splice 0 (le k number) (zeros 8) → take (k - 0) own ≡ le k number
-field_own k number {own} e =
-    let size : k - 0 ≡ k = omega arith in
-    ap (λ (j : ℕ). take j own) size ∙ ap (take k) e ∙ take_at (le k number) (drop (0 + length (le k number)) (zeros 8)) k (length_le k number)
-
 -- a record whose fields were written one after another
 pub record_written : (i n version : ℕ) (part old : List ℕ) {first second third fourth last : List ℕ} {sum : ℕ}
     → length part ≡ 112 → length old ≡ 128

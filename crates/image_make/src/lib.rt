@@ -6,8 +6,9 @@ ghost use Rattle.rules.specs.Bytes.{le, splice};
 ghost use Rattle.rules.specs.Made.{parts_of, first_part, made_record, made_records, made_image, carried, payload_of};
 ghost use Rattle.rules.specs.Made.{making_of, output_made, reading_of, output_read};
 
+use bytes_base::ToBytes;
 use rules::{
-    COUNT_PLACE, IMAGE_RECORD, Image, MOST_RECORDS, Making, NUMBER_PLACE, PAYLOAD_PLACE,
+    COUNT_PLACE, IMAGE_RECORD, MOST_RECORDS, Making, NUMBER_PLACE, NotMade, NotRead, PAYLOAD_PLACE,
     ReadingBack, SUM_PLACE, VERSION_PLACE,
 };
 
@@ -20,31 +21,20 @@ fn put_part(part: &[u8], output: &mut [u8], at: usize)
     ensures { output.new ≡ splice at part.now output.old }
 {
     let mut own = [0u8; PART];
-    bytes_base::copy(&mut own, &part[0..PART]);
+    own.copy_from_slice(part);
     bytes_base::copy_at(output, at, &own);
 }
 
-// Writes the k bytes of a number at a place. They too go through an array of their own, so that the compiler writes them at once.
-fn put_field(record: &mut [u8], at: usize, k: usize, number: u64)
-    requires { (k ≤ 8) × (at + k ≤ length «record».old) }
-    ensures { «record».new ≡ splice at (le k number) «record».old }
-{
-    let mut own = [0u8; 8];
-    bytes_base::put_at(&mut own, 0, k, number);
-    bytes_base::copy_at(record, at, &own[0..k]);
-}
-
 // Record i of n, over the whole of a record's bytes.
-fn put_record(i: usize, n: usize, version: u64, part: &[u8], record: &mut [u8])
+fn put_record(i: u16, n: u16, version: u64, part: &[u8], record: &mut [u8])
     requires { (length part.now ≡ 112) × (length «record».old ≡ 128) }
     ensures { «record».new ≡ made_record i n version part.now }
 {
-    put_field(record, NUMBER_PLACE, 2, i as u64);
-    put_field(record, COUNT_PLACE, 2, n as u64);
-    put_field(record, VERSION_PLACE, 8, version);
+    i.put(record, NUMBER_PLACE);
+    n.put(record, COUNT_PLACE);
+    version.put(record, VERSION_PLACE);
     put_part(part, record, PAYLOAD_PLACE);
-    let sum = image_record::sum(record);
-    put_field(record, SUM_PLACE, 4, sum as u64);
+    image_record::sum(record).put(record, SUM_PLACE);
 }
 
 // So many records from number `first` on, whose parts the payload fills, at the front of the output.
@@ -52,7 +42,7 @@ fn put_record(i: usize, n: usize, version: u64, part: &[u8], record: &mut [u8])
 fn put_records(
     first: usize,
     records: usize,
-    n: usize,
+    n: u16,
     version: u64,
     payload: &[u8],
     output: &mut [u8],
@@ -60,23 +50,22 @@ fn put_records(
     requires { (first + records ≤ 129) × (records * 112 ≤ length payload.now) × (records * 128 ≤ length output.old) }
     ensures { output.new ≡ splice 0 (made_records records first n version payload.now) output.old }
 {
-    let mut i: usize = 0;
-    while i < records {
+    for i in 0..records {
         let from = i * PART;
         let to = i * IMAGE_RECORD;
         put_record(
-            first + i,
+            (first + i) as u16,
             n,
             version,
             &payload[from..from + PART],
             &mut output[to..to + IMAGE_RECORD],
         );
-        i += 1;
     }
 }
 
-// The record behind so many full ones. The payload does not fill its part, and zeros do the rest.
-fn put_last(full: usize, n: usize, version: u64, payload: &[u8], output: &mut [u8])
+// The record behind so many full ones. The payload does not fill its part, and zeros do the rest. A loop of one turn writes it, since a record is compiled into the
+// one loop that writes it.
+fn put_last(full: usize, n: u16, version: u64, payload: &[u8], output: &mut [u8])
     requires full_bound { (full ≤ 128) × (full * 112 ≤ length payload.now) × (length payload.now ≤ full * 112 + 112) }
     requires full_in_bounds { full * 128 + 128 ≤ length output.old }
     ensures { output.new ≡ splice (full * 128) (made_record full n version (first_part (drop (full * 112) payload.now))) output.old }
@@ -95,13 +84,13 @@ fn put_last(full: usize, n: usize, version: u64, payload: &[u8], output: &mut [u
 }
 
 // The whole image, at the front of the output.
-fn put_image(n: usize, version: u64, payload: &[u8], output: &mut [u8])
+fn put_image(n: u16, version: u64, payload: &[u8], output: &mut [u8])
     requires { (n ≡ parts_of payload.now) × (n ≤ 128) × (n * 128 ≤ length output.old) }
     ensures { output.new ≡ splice 0 (made_image payload.now version) output.old }
 {
     let full = payload.len() / PART;
     put_records(0, full, n, version, payload, output);
-    if full < n {
+    if full < n as usize {
         put_last(full, n, version, payload, output);
     }
 }
@@ -111,12 +100,7 @@ fn parts(payload: &[u8]) -> usize
     requires { length payload.now ≤ 14336 }
     ensures { result ≡ parts_of payload.now }
 {
-    let size = payload.len();
-    let empty = size == 0;
-    if empty {
-        return 1;
-    }
-    (size + (PART - 1)) / PART
+    payload.len().div_ceil(PART).max(1)
 }
 
 // Writes the image of a payload at the front of the output, and answers how many bytes that are.
@@ -124,20 +108,19 @@ pub fn make(version: u64, payload: &[u8], output: &mut [u8]) -> Making
     ensures value { result ≡ making_of version payload.now output.old }
     ensures output_after { output.new ≡ output_made result (made_image payload.now version) output.old }
 {
-    let zero = version == 0;
-    if zero {
-        return Making::VersionZero;
+    if version == 0 {
+        return Err(NotMade::VersionZero);
     }
     if MOST_RECORDS * PART < payload.len() {
-        return Making::PayloadOver128Records;
+        return Err(NotMade::PayloadOver128Records);
     }
     let n = parts(payload);
     let length = n * IMAGE_RECORD;
     if output.len() < length {
-        return Making::OutputTooShort;
+        return Err(NotMade::OutputTooShort);
     }
-    put_image(n, version, payload, output);
-    Making::Made { length }
+    put_image(n as u16, version, payload, output);
+    Ok(length)
 }
 
 // What n records carry, at the front of the output.
@@ -146,34 +129,24 @@ fn put_parts(n: usize, image: &[u8], output: &mut [u8])
     requires { (n ≤ 128) × (n * 128 ≤ length image.now) × (n * 112 ≤ length output.old) }
     ensures { output.new ≡ splice 0 (carried n image.now) output.old }
 {
-    let mut i: usize = 0;
-    while i < n {
+    for i in 0..n {
         let from = i * IMAGE_RECORD + PAYLOAD_PLACE;
         put_part(&image[from..from + PART], output, i * PART);
-        i += 1;
     }
 }
 
 // Writes the payload that a good image carries, with its padding, at the front of the output, and answers how many bytes that are.
-#[tactic(auto, unfolding(rules::specs::Made::payload_of))]
+#[tactic(auto, unfolding(rules::specs::Made::payload_of, rules::specs::Made::reading_of))]
 pub fn read_back(image: &[u8], output: &mut [u8]) -> ReadingBack
     ensures value { result ≡ reading_of image.now output.old }
     ensures output_after { output.new ≡ output_read result (payload_of image.now) output.old }
 {
-    let found = image_check::image(image);
-    match found {
-        Image::Bad {
-            reason: _,
-            number: _,
-        } => ReadingBack::NotGoodImage,
-        Image::Good { version: _ } => {
-            let n = image.len() / IMAGE_RECORD;
-            let length = n * PART;
-            if output.len() < length {
-                return ReadingBack::OutputTooShort;
-            }
-            put_parts(n, image, output);
-            ReadingBack::Read { length }
-        }
+    image_check::image(image).map_err(|_| NotRead::NotGoodImage)?;
+    let n = image.len() / IMAGE_RECORD;
+    let length = n * PART;
+    if output.len() < length {
+        return Err(NotRead::OutputTooShort);
     }
+    put_parts(n, image, output);
+    Ok(length)
 }

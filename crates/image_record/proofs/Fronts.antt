@@ -1,46 +1,15 @@
--- Laws of a record's front: it tests what number, count and version test, and two records by their sums and fronts.
+-- Laws of a record's front: it tests what number, count and version test.
 -- Assumes nothing.
-use mathlib.Core.{Path.{◌≡◌, refl, sym, ◌∙◌, ap}, Bool.{Bool, true, false, ◌&&◌, false≢true}, List.List}
+use mathlib.Core.{Path.{◌≡◌, refl, sym, ◌∙◌, ap}, Bool.{Bool, true, false, ◌&&◌}, List.List}
 use Rattle.std.proofs.Common.{ℕ, ◌+◌, ◌*◌, ◌^◌, ◌<◌, ◌≤◌, length, drop, arith, eq-eqb, ne_eqb, eqb-true}
 use borrow.Author.Tests.{eqb-false}
 use Rattle.rules.{specs.Bytes.{number_at, AreBytes}, specs.Image.good_record, specs.Fault.sum_test, specs.Tests.◌=?◌, proofs.page.Le.drop_bytes}
 use Rattle.image_record.specs.Front.{front_of, good_behind}
 use Rattle.image_record.proofs.Numbers.{small, first_half}
 
-and_true : (a : Bool) → (a && true) ≡ a
-and_true true = refl
-and_true false = refl
-
 and_false : (a : Bool) → (a && false) ≡ false
 and_false true = refl
 and_false false = refl
-
--- two records whose sums and fronts were tested: a bad sum decides, and where both are good the fronts do
-one_bad : (a b s t : Bool) → (s && t) ≡ false → false ≡ ((a && s) && (b && t))
-one_bad true true s t e = sym e
-one_bad true false true t e = refl
-one_bad true false false t e = refl
-one_bad false b s t e = refl
-
-both_good : (a x y s t : Bool) → (s && t) ≡ true → (a && x && y) ≡ ((a && s) && (x && y && t))
-both_good true x y true true e = sym (and_true (x && y))
-both_good false x y true true e = refl
-both_good a x y true false e = absurd (false≢true e)
-both_good a x y false t e = absurd (false≢true e)
-
-module _ (front version : ℕ) (first second : List ℕ) {sums : Bool} (sums_are : sums ≡ (sum_test first && sum_test second)) where
-  pub bad_sum_decides : sums ≡ false → false ≡ (good_behind front version first && good_behind (front + 1) version second)
-  unfolding good_behind
-  bad_sum_decides bad =
-      one_bad ((number_at 8 0 first =? front) && (number_at 8 4 first =? version)) ((number_at 8 0 second =? front + 1) && (number_at 8 4 second =? version))
-      (sum_test first) (sum_test second) (sym sums_are ∙ bad)
-
-  pub fronts_decide : {a b c d : ℕ} → a ≡ number_at 8 0 first → b ≡ number_at 8 4 first → c ≡ number_at 8 0 second → d ≡ number_at 8 4 second → sums ≡ true
-      → ((a =? front) && (b =? version) && (c =? front + 1) && (d =? version)) ≡ (good_behind front version first && good_behind (front + 1) version second)
-  unfolding good_behind
-  fronts_decide {a} {b} {c} {d} a_is b_is c_is d_is good =
-      both_good ((a =? front) && (b =? version)) (c =? front + 1) (d =? version) (sum_test first) (sum_test second) (sym sums_are ∙ good)
-      ∙ rw (a_is, b_is, c_is, d_is)
 
 -- the three fields that a front and a version hold, of a record with the version: the front is right exactly where number and count are
 module _ (i n a b c d : ℕ) (i_fits : i < 65536) (n_fits : n < 65536) (a_fits : a < 65536) (b_fits : b < 65536) (c_fits : c < 2 ^ 32) where

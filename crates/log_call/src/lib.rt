@@ -7,6 +7,7 @@ ghost use Rattle.rules.specs.Log.{record_size, named_in, host_in, good_call};
 ghost use Rattle.rules.specs.declared.Entry.TheVariants.{Bad};
 ghost use Rattle.log_call.specs.Call.{call_entry};
 
+use bytes_numbers::FromBytes;
 use rules::{Entry, LONGEST_REQUEST};
 
 // The module, which the host byte's high four bits name.
@@ -14,7 +15,7 @@ pub fn named_in(bytes: &[u8]) -> u8
     requires { length bytes.now ≡ record_size }
     ensures { result ≡ named_in bytes.now }
 {
-    bytes_numbers::byte(bytes, 1) / 16
+    u8::read(bytes, 1) / 16
 }
 
 // The host, in its low four bits.
@@ -22,41 +23,33 @@ pub fn host_in(bytes: &[u8]) -> u8
     requires { length bytes.now ≡ record_size }
     ensures { result ≡ host_in bytes.now }
 {
-    bytes_numbers::byte(bytes, 1) % 16
+    u8::read(bytes, 1) % 16
 }
 
-// The padding is scanned last, and only where the fields before it are good.
+// The padding is looked at last, and only where the fields before it are good.
 fn good_call(bytes: &[u8]) -> bool
     requires { length bytes.now ≡ record_size }
     ensures { result ≡ good_call bytes.now }
 {
-    let host = host_in(bytes);
-    let named = named_in(bytes);
-    let known = (1 <= host) & (host <= 4) & (named <= 1);
-    if !known {
-        return false;
-    }
-    let size = bytes_numbers::half(bytes, 6);
-    if LONGEST_REQUEST < size {
-        return false;
-    }
-    let end = 8 + size as usize;
-    bytes_base::all_zero(&bytes[end..])
+    let size = u16::read(bytes, 6);
+    matches!(host_in(bytes), 1..=4)
+        && named_in(bytes) <= 1
+        && size <= LONGEST_REQUEST
+        && bytes_base::all_zero(&bytes[8 + size as usize..])
 }
 
 pub fn decode_call(bytes: &[u8]) -> Entry
     requires { length bytes.now ≡ record_size }
     ensures { result ≡ (if good_call bytes.now then call_entry bytes.now else Bad) }
 {
-    let good = good_call(bytes);
-    if !good {
+    if !good_call(bytes) {
         return Entry::Bad;
     }
     Entry::Call {
         named: named_in(bytes),
         host: host_in(bytes),
-        revision: bytes_numbers::half(bytes, 2),
-        function: bytes_numbers::half(bytes, 4),
-        length: bytes_numbers::half(bytes, 6),
+        revision: u16::read(bytes, 2),
+        function: u16::read(bytes, 4),
+        length: u16::read(bytes, 6),
     }
 }

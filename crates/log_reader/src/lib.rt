@@ -7,14 +7,15 @@ ghost use Rattle.log_reader.specs.Reader.{stood_at, reader_of, step_of};
 
 use rules::{Entry, LOG_RECORD};
 
-#[derive(Drop)]
+// The reader that document 01 asks for (docs/DECISIONS.md, "The form for each place"): a lent log and a place, and functions that go over them.
+#[derive(Clone, Copy)]
 pub struct LogReader<'a> {
     pub log: &'a [u8],
     pub place: usize,
 }
 
 // What stands at a place: a record, with what it says; a tail that is too short for one; or the end.
-#[derive(Drop)]
+#[derive(Clone, Copy)]
 pub enum Found {
     Record(Entry),
     Short,
@@ -22,42 +23,42 @@ pub enum Found {
 }
 
 // What stood at a place, and the place after it.
-#[derive(Drop)]
+#[derive(Clone, Copy)]
 pub struct Stood {
     pub found: Found,
     pub place: usize,
 }
 
 // What stood at the reader's place, and the reader moved on.
-#[derive(Drop)]
+#[derive(Clone, Copy)]
 pub struct Step<'a> {
     pub found: Found,
     pub reader: LogReader<'a>,
 }
 
 // The work: what stands at a place of a log.
+#[tactic(auto, unfolding(crate::specs::Reader::stood_at))]
 pub fn stood_at(log: &[u8], place: usize) -> Stood
     ensures { result ≡ stood_at log.now place }
 {
     let count = log.len() / LOG_RECORD;
     if place < count {
         let start = place * LOG_RECORD;
-        let end = start + LOG_RECORD;
-        return Stood {
-            found: Found::Record(log_record::decode(&log[start..end])),
+        let entry = log_record::decode(&log[start..start + LOG_RECORD]);
+        Stood {
+            found: Found::Record(entry),
             place: place + 1,
-        };
-    }
-    let short = (place == count) & (log.len() % LOG_RECORD != 0);
-    if short {
-        return Stood {
+        }
+    } else if place == count && log.len() % LOG_RECORD != 0 {
+        Stood {
             found: Found::Short,
             place: place + 1,
-        };
-    }
-    Stood {
-        found: Found::End,
-        place,
+        }
+    } else {
+        Stood {
+            found: Found::End,
+            place,
+        }
     }
 }
 

@@ -24,7 +24,7 @@ abbrev call? : Entry → ℕ
 call? (Call named host revision function size) = 1
 call? Tick = 0
 call? (Power named) = 0
-call? (Health named spare media controller) = 0
+call? (Health named new) = 0
 call? Bad = 0
 
 -- a good call's request has at most 536 bytes

@@ -1,7 +1,7 @@
 // Reading logs, which may be files or pipes.
 #![tactic(auto)]
 
-ghost use Rattle.std.specs.Prelude.{◌≤◌, ◌<◌, ◌+◌, ◌^◌, length, IfOk, IsTrue};
+ghost use Rattle.std.specs.Prelude.{◌≤◌, ◌<◌, ◌+◌, ◌-◌, ◌^◌, length, IfOk, IfSome, IsTrue, MatchResult};
 
 use std::env::{Env, FillError};
 use std::fs::File;
@@ -16,17 +16,6 @@ pub const PART: usize = 65280;
 // What a shell has for a program that SIGPIPE ended. A program of this kit is not ended by it, and ends with it.
 const CLOSED: u8 = 141;
 
-// The system's numbers of errors: no error, no open file, no argument, an argument that is too long, a name that is no text.
-const SUCCESS: i32 = 0;
-
-const NO_OPEN_FILE: i32 = 9;
-
-const NO_ARGUMENT: i32 = 22;
-
-const TOO_LONG: i32 = 36;
-
-const NO_TEXT: i32 = 84;
-
 // What the programs use of the system, and standard error for bytes that need not be text.
 pub trait System: Env + Files<File = File> + Input + Print {
     // What cannot be written there is lost.
@@ -39,166 +28,124 @@ impl System for HostRuntime {
     }
 }
 
-// Where the bytes of a log come from.
-#[derive(Drop)]
-enum Source {
-    Nothing,
-    StandardInput,
-    Opened(File),
+// Why a name is refused before the system is asked for its file. Each has the number of the system's error whose text says so.
+#[derive(Clone, Copy)]
+enum Refused {
+    NoArgument = 22,
+    TooLong = 36,
+    NoText = 84,
 }
 
-// A log, or none; and why it could not be opened or read, if it could not. Its file is closed where it is dropped.
-#[derive(Drop)]
-pub struct Log {
-    source: Source,
-    reason: io::Error,
-}
-
-// A log, or none, and the length of its name.
-#[derive(Drop)]
-pub struct Opened {
-    pub log: Log,
-    pub size: usize,
-}
-
-// No log.
-pub fn no_log() -> Log {
-    Log {
-        source: Source::Nothing,
-        reason: io::Error::from_raw_os_error(SUCCESS),
+impl From<FillError> for Refused {
+    fn from(error: FillError) -> Refused {
+        match error {
+            FillError::NotPresent => Refused::NoArgument,
+            FillError::TooLong => Refused::TooLong,
+        }
     }
 }
 
-// Whether it is a log that can be read from.
-pub fn is_open(log: &Log) -> bool {
-    match log.source {
-        Source::Nothing => false,
-        Source::StandardInput => true,
-        Source::Opened(_) => true,
+impl From<Refused> for io::Error {
+    fn from(refused: Refused) -> io::Error {
+        io::Error::from_raw_os_error(refused as i32)
+    }
+}
+
+// A log that was opened: where its bytes come from. Its file is closed where it is dropped, but not standard input, which may be named again.
+#[derive(Drop)]
+pub enum Log {
+    StandardInput,
+    File(File),
+}
+
+// A log and its name.
+#[derive(Drop)]
+pub struct Opened<'a> {
+    pub log: Log,
+    pub name: &'a [u8],
+}
+
+// How much of a buffer was filled before reading failed, and why it failed.
+#[derive(Clone, Copy)]
+pub struct Broken {
+    pub have: usize,
+    pub reason: io::Error,
+}
+
+// Why a text was not written: nobody reads it any more, or standard output cannot be written, which was told on standard error.
+#[derive(Clone, Copy, Debug, PartialEq, Eq)]
+pub enum Unwritten {
+    Closed,
+    Failed,
+}
+
+// The exit status of a program: 0, or the one of a program that the system ends because nobody reads what it writes.
+impl From<Unwritten> for ExitCode {
+    fn from(unwritten: Unwritten) -> ExitCode {
+        match unwritten {
+            Unwritten::Closed => ExitCode::from(CLOSED),
+            Unwritten::Failed => ExitCode::SUCCESS,
+        }
     }
 }
 
 // How many arguments the program was started with, its own name among them.
 pub fn arg_count<R: System>(rt: &R) -> usize {
-    for count in 0..usize::MAX {
-        if !has_arg(rt, count) {
-            return count;
-        }
-    }
-    usize::MAX
+    (0..usize::MAX)
+        .take_while(|argument| has_arg(rt, *argument))
+        .count()
 }
 
 // Whether there is such an argument. One that is there does not fit into a buffer of no bytes, unless it is empty; and no list is so long that it has the last number.
 pub fn has_arg<R: System>(rt: &R, argument: usize) -> bool
     ensures { IsTrue result → argument + 1 < 2 ^ 64 }
 {
-    if argument == usize::MAX {
-        return false;
-    }
-    match rt.arg(argument, &mut []) {
-        Ok(_) => true,
-        Err(FillError::TooLong) => true,
-        Err(FillError::NotPresent) => false,
-    }
+    argument < usize::MAX && !matches!(rt.arg(argument, &mut []), Err(FillError::NotPresent))
 }
 
-// Keeps an argument in a buffer, and gives its length: 0 where it is missing or longer than the buffer.
-pub fn arg<R: System>(rt: &R, argument: usize, name: &mut [u8]) -> usize
-    ensures { result ≤ length name.old }
+// An argument, at the front of a buffer: none where it is missing or longer than the buffer.
+pub fn arg<'a, R: System>(rt: &R, argument: usize, name: &'a mut [u8]) -> Option<&'a [u8]>
+    ensures { IfSome result (λ word. length word.now ≤ length name.old) }
 {
     match rt.arg(argument, name) {
-        Ok(size) => size,
-        Err(_) => 0,
+        Ok(size) => Some(&name[..size]),
+        Err(_) => None,
     }
 }
 
 // Opens the log that an argument names, `-` for standard input, and keeps the name in a buffer. What cannot be opened is named on standard error.
-pub fn open_log<R: System>(rt: &R, argument: usize, name: &mut [u8]) -> Opened
-    ensures { result.size ≤ length name.old }
+pub fn open_log<'a, R: System>(rt: &R, argument: usize, name: &'a mut [u8]) -> Option<Opened<'a>>
+    ensures { IfSome result (λ opened. length opened.name.now ≤ length name.old) }
 {
-    let size = match rt.arg(argument, name) {
-        Ok(size) => size,
-        Err(error) => {
-            fail(rt, b"argument", &reason_of(error));
-            return Opened {
-                log: no_log(),
-                size: 0,
-            };
+    let size = rt
+        .arg(argument, name)
+        .inspect_err(|error| fail(rt, b"argument", &io::Error::from(Refused::from(*error))))
+        .ok()?;
+    let name = &name[..size];
+    let log = open(rt, name)
+        .inspect_err(|reason| fail(rt, name, reason))
+        .ok()?;
+    Some(Opened { log, name })
+}
+
+// The log of a name, which has to be text.
+fn open<R: System>(rt: &R, name: &[u8]) -> io::Result<Log> {
+    if name == b"-".as_slice() {
+        return Ok(Log::StandardInput);
+    }
+    let path = str::from_utf8(name).map_err(|_| Refused::NoText)?;
+    Ok(Log::File(fs::open(rt, path)?))
+}
+
+// Writes a text to standard output. What could not be written is told on standard error, but where nobody reads it any more.
+pub fn show<R: System>(rt: &R, text: &[u8]) -> Result<(), Unwritten> {
+    match rt.write_all(text) {
+        Ok(()) => Ok(()),
+        Err(reason) if reason.kind() == io::ErrorKind::BrokenPipe => Err(Unwritten::Closed),
+        Err(reason) => {
+            fail(rt, b"standard output", &reason);
+            Err(Unwritten::Failed)
         }
-    };
-    if bytes_base::same(&name[..size], b"-") {
-        let log = Log {
-            source: Source::StandardInput,
-            reason: io::Error::from_raw_os_error(SUCCESS),
-        };
-        return Opened { log, size };
-    }
-    let log = open_file(rt, &name[..size]);
-    if !is_open(&log) {
-        fail_log(rt, &log, name, size);
-    }
-    Opened { log, size }
-}
-
-// Why there is no argument.
-fn reason_of(error: FillError) -> io::Error {
-    match error {
-        FillError::NotPresent => io::Error::from_raw_os_error(NO_ARGUMENT),
-        FillError::TooLong => io::Error::from_raw_os_error(TOO_LONG),
-    }
-}
-
-// The file of a name, which has to be text.
-fn open_file<R: System>(rt: &R, name: &[u8]) -> Log {
-    let opened = match str::from_utf8(name) {
-        Ok(path) => fs::open(rt, path),
-        Err(_) => Err(io::Error::from_raw_os_error(NO_TEXT)),
-    };
-    match opened {
-        Ok(file) => Log {
-            source: Source::Opened(file),
-            reason: io::Error::from_raw_os_error(SUCCESS),
-        },
-        Err(reason) => Log {
-            source: Source::Nothing,
-            reason,
-        },
-    }
-}
-
-// Whether a text was written; and where it was not, whether that is so because nobody reads it any more.
-#[derive(Clone, Copy)]
-pub struct Shown {
-    pub written: bool,
-    pub closed: bool,
-}
-
-// Writes the front of a buffer to standard output. What could not be written is told on standard error, but where nobody reads it any more.
-pub fn show<R: System>(rt: &R, out: &[u8], end: usize) -> Shown
-    requires { end ≤ length out.now }
-{
-    let Err(reason) = rt.write_all(&out[0..end]) else {
-        return Shown {
-            written: true,
-            closed: false,
-        };
-    };
-    let closed = reason.kind() == io::ErrorKind::BrokenPipe;
-    if !closed {
-        fail(rt, b"standard output", &reason);
-    }
-    Shown {
-        written: false,
-        closed,
-    }
-}
-
-// The exit status of a program: 0, or the one of a program that the system ends because nobody reads what it writes.
-pub fn status(closed: bool) -> ExitCode {
-    if closed {
-        ExitCode::from(CLOSED)
-    } else {
-        ExitCode::SUCCESS
     }
 }
 
@@ -209,96 +156,46 @@ pub fn fail<R: System>(rt: &R, what: &[u8], reason: &io::Error) {
     let _ = write!(room, "{reason}");
     let left = room.len();
     let written = text.len().saturating_sub(left);
-    let end = before_number(&text, written);
-    rt.say(what);
-    rt.say(b": ");
-    rt.say(&text[..end]);
-    rt.say(b"\n");
+    refuse(rt, what, before_number(&text[..written]));
 }
 
-// The end of a reason in a text of this length, without the error's number, which stands in brackets behind it.
-fn before_number(text: &[u8], written: usize) -> usize
-    ensures { result ≤ length text.now }
-{
-    let all = text.len().min(written);
-    for at in (1..all).rev() {
-        if text[at] == b'(' {
-            return at - 1;
-        }
+// A reason without the error's number, which stands in brackets behind it.
+fn before_number(text: &[u8]) -> &[u8] {
+    match text.iter().rposition(|byte| *byte == b'(') {
+        Some(at) if 0 < at => &text[..at - 1],
+        _ => text,
     }
-    all
 }
 
-// Says of the log whose name is the front of a buffer why it cannot be read.
-pub fn fail_log<R: System>(rt: &R, log: &Log, name: &[u8], size: usize)
-    requires { size ≤ length name.now }
-{
-    fail(rt, &name[0..size], &log.reason);
-}
-
-// Says of the log whose name is the front of a buffer why it is refused.
-pub fn refuse_log<R: System>(rt: &R, name: &[u8], size: usize, reason: &[u8])
-    requires { size ≤ length name.now }
-{
-    rt.say(&name[0..size]);
+// Says of something, such as a log by its name, why it is refused.
+pub fn refuse<R: System>(rt: &R, what: &[u8], reason: &[u8]) {
+    rt.say(what);
     rt.say(b": ");
     rt.say(reason);
     rt.say(b"\n");
-}
-
-// Closes a log, but not standard input, which may be named again; none is left as it is.
-pub fn close_log(log: &mut Log) {
-    *log = no_log();
-}
-
-// How much of a buffer was filled, and whether reading failed there.
-#[derive(Clone, Copy)]
-pub struct Filled {
-    pub have: usize,
-    pub failed: bool,
 }
 
 // Reads once.
 fn read<R: System>(rt: &R, log: &mut Log, buf: &mut [u8]) -> io::Result<usize>
     ensures { IfOk result (λ got. got ≤ length buf.old) }
 {
-    match &mut log.source {
-        Source::Nothing => Err(io::Error::from_raw_os_error(NO_OPEN_FILE)),
-        Source::StandardInput => rt.reader().read(buf),
-        Source::Opened(file) => file.read(buf),
+    match log {
+        Log::StandardInput => rt.reader().read(buf),
+        Log::File(file) => file.read(buf),
     }
 }
 
-// Reads until the buffer is full or the log ends; a pipe comes in pieces. A loop has to end, so it counts its turns down, from a number that no log uses up.
-pub fn fill<R: System>(rt: &R, log: &mut Log, buf: &mut [u8]) -> Filled
-    ensures { result.have ≤ length buf.old }
+// Reads until the buffer is full or the log ends; a pipe comes in pieces.
+pub fn fill<R: System>(rt: &R, log: &mut Log, buf: &mut [u8]) -> Result<usize, Broken>
+    ensures { MatchResult result (λ have. have ≤ length buf.old) (λ broken. broken.have ≤ length buf.old) }
 {
     let mut have = 0;
-    let mut turns = u64::MAX;
-    while turns > 0 {
-        if buf.len() <= have {
-            return Filled {
-                have,
-                failed: false,
-            };
-        }
+    while have < buf.len() {
         match read(rt, log, &mut buf[have..]) {
-            Ok(0) => {
-                return Filled {
-                    have,
-                    failed: false,
-                };
-            }
+            Ok(0) => return Ok(have),
             Ok(got) => have += got,
-            Err(reason) => {
-                log.reason = reason;
-                return Filled { have, failed: true };
-            }
+            Err(reason) => return Err(Broken { have, reason }),
         }
-        turns -= 1;
     }
-    Filled {
-        have,
-        failed: false,
-    }
+    Ok(have)
 }

@@ -1,13 +1,16 @@
 // The one loop over logs: a program goes through the logs that its arguments name turn by turn, and does its own work at each.
 #![tactic(auto)]
 
-ghost use Rattle.std.specs.Prelude.{◌+◌, ◌/◌, ◌≤◌, ◌<◌, ◌≡◌, length};
-ghost use Rattle.std.specs.Prelude.{if◌then◌else◌};
+ghost use Rattle.std.specs.Prelude.{◌+◌, ◌*◌, ◌/◌, ◌≤◌, ◌<◌, ◌≡◌, length, take};
+ghost use Rattle.std.specs.Prelude.{if◌then◌else◌, is_ok, IfSome, IfErr, MatchResult};
+ghost use Rattle.rules.specs.Log.{record_size};
 ghost use Rattle.program_logs.specs.declared.Turn.TheVariants.{Part, Nothing};
-ghost use Rattle.program_logs.specs.Turns.{Standing, Next, Left, after_part, part_size};
+ghost use Rattle.program_logs.specs.Standing.{Standing, part_size};
+ghost use Rattle.program_files.specs.declared.Unwritten.TheVariants.{Closed};
 
-use program_files::{Filled, Log, PART, System};
+use program_files::{Broken, Log, PART, System, Unwritten};
 use rules::LOG_RECORD;
+use std::io;
 
 // The buffer for an argument: the longest name of a file, and its end.
 pub const NAME: usize = 4096;
@@ -26,13 +29,12 @@ pub enum Turn {
     End { short: bool },
     // A log cannot be read, or no further. It was named on standard error.
     Unreadable,
-    // There is no log: before the first, and after the last.
+    // There is no log: before the first, and where one was left.
     Nothing,
 }
 
 // Where a program stands in its logs: its turn, the argument that comes next, the length of the log's name, the number of the next record, how much of the buffer
-// the part fills, whether reading failed behind it, how many turns are left: none after the last log; and whether nobody reads standard output any more. The log
-// itself, or none, stands beside it.
+// the part fills, why reading failed behind it, if it did, and how many turns are left. The buffers stand beside it, for they are lent anew at each turn.
 #[derive(Clone, Copy)]
 pub struct Logs {
     pub turn: Turn,
@@ -40,163 +42,179 @@ pub struct Logs {
     pub size: usize,
     pub number: u64,
     pub have: usize,
-    pub failed: bool,
+    pub failure: Option<io::Error>,
     pub left: u64,
-    pub closed: bool,
+    ghost standing: { Standing have size number left },
 }
 
-// Before the log that this argument names. A program's first is 1; the program itself is 0.
-pub fn before(argument: usize) -> Logs
-    ensures { Standing result × (result.turn ≡ Nothing) × (result.argument ≡ argument) }
-{
-    Logs {
-        turn: Turn::Nothing,
-        argument,
-        size: 0,
-        number: 0,
-        have: 0,
-        failed: false,
-        left: TURNS,
-        closed: false,
-    }
+// The log that a program is in, or none, its last part, and its name.
+#[derive(Drop)]
+struct Held {
+    log: Option<Log>,
+    part: [u8; PART],
+    name: [u8; NAME],
 }
 
-// On to a turn, with so much in the buffer.
-fn go_on(logs: Logs, turn: Turn, number: u64, filled: Filled) -> Logs
-    requires { Standing logs × (0 < logs.left) × (number ≤ logs.number + 120) × (filled.have ≤ part_size) }
-    ensures { Standing result × (result.left < logs.left) × ((result.turn ≡ turn) × (result.number ≡ number)) }
-{
-    Logs {
-        turn,
-        number,
-        have: filled.have,
-        failed: filled.failed,
-        left: logs.left - 1,
-        ..logs
-    }
-}
+impl Logs {
+    ghost use Rattle.program_logs.specs.Turns.{Next, NextOrNone, Left, after_part};
 
-// After a part: the next one where it filled the buffer, else the end.
-fn after_part<R: System>(
-    rt: &R,
-    logs: Logs,
-    log: &mut Log,
-    buf: &mut [u8; PART],
-    name: &[u8; NAME],
-) -> Logs
-    requires { Standing logs × (0 < logs.left) }
-    ensures { Standing result × (result.left < logs.left) × Next Part logs result }
-{
-    let number = logs.number + (logs.have / LOG_RECORD) as u64;
-    let full = logs.have == PART;
-    let short = logs.have % LOG_RECORD != 0;
-    let failed = logs.failed;
-    if full {
-        return go_on(logs, Turn::Part, number, program_files::fill(rt, log, buf));
-    }
-    let none = Filled {
-        have: 0,
-        failed: false,
-    };
-    if failed {
-        program_files::fail_log(rt, log, name, logs.size);
-        return go_on(logs, Turn::Unreadable, number, none);
-    }
-    go_on(logs, Turn::End { short }, number, none)
-}
-
-// The log that the next argument names. One of which nothing can be read does not begin, and none where nobody reads what is written.
-fn begin<R: System>(
-    rt: &R,
-    logs: Logs,
-    log: &mut Log,
-    buf: &mut [u8; PART],
-    name: &mut [u8; NAME],
-) -> Logs
-    requires { Standing logs × (0 < logs.left) }
-    ensures { Standing result × (result.left < logs.left) × Left result.turn result.number }
-{
-    program_files::close_log(log);
-    let argument = logs.argument;
-    if logs.closed || !program_files::has_arg(rt, argument) {
-        return Logs {
+    // Before the log that this argument names. A program's first is 1; the program itself is 0.
+    fn before(argument: usize) -> Logs
+        ensures { (result.turn ≡ Nothing) × (result.argument ≡ argument) }
+    {
+        Logs {
             turn: Turn::Nothing,
-            left: 0,
-            ..logs
+            argument,
+            size: 0,
+            number: 0,
+            have: 0,
+            failure: None,
+            left: TURNS,
+        }
+    }
+
+    // The part that is in the buffer.
+    pub fn part<'a>(&self, buf: &'a [u8; PART]) -> &'a [u8]
+        ensures { result.now ≡ take self.now.have buf.now }
+    {
+        &buf[..self.have]
+    }
+
+    // On to a turn, with what is in the buffer.
+    fn on_to(self, turn: Turn) -> Logs
+        requires { 0 < self.left }
+        ensures { (result.left < self.left) × ((result.turn ≡ turn) × (result.number ≡ self.number)) }
+    {
+        let mut next = self;
+        next.turn = turn;
+        next.left -= 1;
+        next
+    }
+
+    // With so much in the buffer, and why reading failed behind it.
+    fn holding(self, filled: Result<usize, Broken>) -> Logs
+        requires { MatchResult filled (λ have. have ≤ part_size) (λ broken. broken.have ≤ part_size) }
+        ensures { (result.left ≡ self.left) × ((result.turn ≡ self.turn) × (result.number ≡ self.number)) }
+    {
+        let mut logs = self;
+        match filled {
+            Ok(have) => {
+                logs.have = have;
+                logs.failure = None;
+            }
+            Err(broken) => {
+                logs.have = broken.have;
+                logs.failure = Some(broken.reason);
+            }
+        }
+        logs
+    }
+
+    // On to a turn behind the records of a part.
+    fn behind_part(self, turn: Turn) -> Logs
+        requires { 0 < self.left }
+        ensures { (result.left < self.left) × ((result.turn ≡ turn) × (result.number ≡ self.number + self.have / record_size)) }
+    {
+        let number = self.number + (self.have / LOG_RECORD) as u64;
+        let mut next = self.on_to(turn);
+        next.number = number;
+        next
+    }
+
+    // After a part: the next one where it filled the buffer, else the end.
+    fn after_part<R: System>(self, rt: &R, held: &mut Held) -> Logs
+        requires { 0 < self.left }
+        ensures { (result.left < self.left) × Next Part self result }
+    {
+        if self.have == PART {
+            let filled = match &mut held.log {
+                Some(log) => program_files::fill(rt, log, &mut held.part),
+                None => Ok(0),
+            };
+            return self.behind_part(Turn::Part).holding(filled);
+        }
+        if let Some(reason) = self.failure {
+            program_files::fail(rt, &held.name[..self.size], &reason);
+            return self.behind_part(Turn::Unreadable);
+        }
+        let short = self.have % LOG_RECORD != 0;
+        self.behind_part(Turn::End { short })
+    }
+
+    // The log that the next argument names, if there is one. One of which nothing can be read does not begin.
+    fn begin<R: System>(self, rt: &R, held: &mut Held) -> Option<Logs>
+        requires { 0 < self.left }
+        ensures { IfSome result (λ r. (r.left < self.left) × Left r.turn r.number) }
+    {
+        held.log = None;
+        let argument = self.argument;
+        if !program_files::has_arg(rt, argument) {
+            return None;
+        }
+        let mut next = self.on_to(Turn::Unreadable);
+        next.argument = argument + 1;
+        let Some(opened) = program_files::open_log(rt, argument, &mut held.name) else {
+            return Some(next);
         };
+        let name = opened.name;
+        let mut log = opened.log;
+        let filled = program_files::fill(rt, &mut log, &mut held.part);
+        if let Err(Broken { have: 0, reason }) = filled {
+            program_files::fail(rt, name, &reason);
+            return Some(next);
+        }
+        next.turn = Turn::Beginning;
+        next.size = name.len();
+        next.number = 0;
+        held.log = Some(log);
+        Some(next.holding(filled))
     }
-    let opened = program_files::open_log(rt, argument, name);
-    let size = opened.size;
-    *log = opened.log;
-    let next = Logs {
-        turn: Turn::Unreadable,
-        argument: argument + 1,
-        size,
-        left: logs.left - 1,
-        ..logs
+
+    // The next turn, or none: after the last log.
+    fn next<R: System>(self, rt: &R, held: &mut Held) -> Option<Logs>
+        ensures { NextOrNone self result }
+    {
+        if self.left == 0 {
+            return None;
+        }
+        match self.turn {
+            Turn::Beginning => Some(self.on_to(Turn::Part)),
+            Turn::Part => Some(self.after_part(rt, held)),
+            Turn::End { short: _ } | Turn::Unreadable | Turn::Nothing => self.begin(rt, held),
+        }
+    }
+
+    // A log whose text could not be written is left.
+    fn told(self, shown: Result<(), Unwritten>) -> Logs
+        ensures { (result.left ≡ self.left) × (result.turn ≡ (if is_ok shown then self.turn else Nothing)) }
+    {
+        let mut logs = self;
+        if shown.is_err() {
+            logs.turn = Turn::Nothing;
+        }
+        logs
+    }
+}
+
+// Does a program's work at each turn: where it stands, the buffer, and the log's name. It stops where nobody reads any more what the work writes.
+pub fn go_through<R: System, W>(rt: &R, mut work: W) -> Result<(), Unwritten>
+where
+    W: FnMut(Logs, &[u8; PART], &[u8]) -> Result<(), Unwritten>,
+    requires { W.IsAlwaysCallable work }
+    ensures { IfErr result (λ unwritten. unwritten ≡ Closed) }
+{
+    let mut held = Held {
+        log: None,
+        part: [0u8; PART],
+        name: [0u8; NAME],
     };
-    if !program_files::is_open(log) {
-        return next;
+    let mut logs = Logs::before(1);
+    while let Some(next) = logs.next(rt, &mut held) {
+        let shown = work(next, &held.part, &held.name[..next.size]);
+        if shown == Err(Unwritten::Closed) {
+            return shown;
+        }
+        logs = next.told(shown);
     }
-    let filled = program_files::fill(rt, log, buf);
-    if filled.failed & (filled.have == 0) {
-        program_files::fail_log(rt, log, name, size);
-        return next;
-    }
-    Logs {
-        turn: Turn::Beginning,
-        number: 0,
-        have: filled.have,
-        failed: filled.failed,
-        ..next
-    }
-}
-
-// The next turn.
-pub fn next<R: System>(
-    rt: &R,
-    logs: Logs,
-    log: &mut Log,
-    buf: &mut [u8; PART],
-    name: &mut [u8; NAME],
-) -> Logs
-    requires { Standing logs × (0 < logs.left) }
-    ensures { Standing result × (result.left < logs.left) × Next logs.turn logs result }
-{
-    let turn = logs.turn;
-    let filled = Filled {
-        have: logs.have,
-        failed: logs.failed,
-    };
-    match turn {
-        Turn::Beginning => go_on(logs, Turn::Part, logs.number, filled),
-        Turn::Part => after_part(rt, logs, log, buf, name),
-        Turn::End { short: _ } => begin(rt, logs, log, buf, name),
-        Turn::Unreadable => begin(rt, logs, log, buf, name),
-        Turn::Nothing => begin(rt, logs, log, buf, name),
-    }
-}
-
-// A log whose text could not be written is left.
-fn told(logs: Logs, written: bool) -> Logs
-    requires { Standing logs }
-    ensures { Standing result × (result.left ≡ logs.left) × (result.turn ≡ (if written then logs.turn else Nothing)) }
-{
-    if written {
-        return logs;
-    }
-    Logs {
-        turn: Turn::Nothing,
-        ..logs
-    }
-}
-
-// Writes the text of a turn out, the front of a buffer.
-pub fn show<R: System>(rt: &R, logs: Logs, out: &[u8], end: usize) -> Logs
-    requires { Standing logs × (end ≤ length out.now) }
-    ensures { Standing result × (result.left ≡ logs.left) }
-{
-    let shown = program_files::show(rt, out, end);
-    let closed = logs.closed | shown.closed;
-    told(Logs { closed, ..logs }, shown.written)
+    Ok(())
 }

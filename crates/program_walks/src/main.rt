@@ -9,69 +9,45 @@ ghost use Rattle.log_reader.specs.Reader.{stood_at};
 
 use cabinet::Outcome;
 use log_reader::{Found, Stood};
-use rules::{Cabinet, Device, Entry, Phase, Refusal, Transfer, Verdict};
+use rules::{
+    AREA_SIZE, Cabinet, Device, Entry, LOG_RECORD, Phase, Reading, Refusal, Transfer, Verdict,
+};
 use std::io::Print;
 
-// The staging area, in bytes.
-const AREA: usize = 16384;
-
-// A record of a log, in bytes.
-const RECORD: usize = 544;
-
-// What cannot be written is lost.
-fn print<R: Print>(rt: &R, text: &[u8]) {
-    let _ = rt.write_all(text);
-}
-
-// A number, and the text after it.
-fn print_number<R: Print>(rt: &R, n: u64, after: &[u8]) {
-    let _ = rt.print(n);
-    let _ = rt.write_all(after);
-}
-
+// An entry of a log, on a line. What cannot be written is lost, here and below.
 fn print_entry<R: Print>(rt: &R, entry: Entry) {
-    match entry {
+    let _ = match entry {
         Entry::Call {
             named,
             host,
             revision,
             function,
             length,
-        } => {
-            print(rt, b"call ");
-            print_number(rt, named as u64, b" ");
-            print_number(rt, host as u64, b" ");
-            print_number(rt, revision as u64, b" ");
-            print_number(rt, function as u64, b" ");
-            print_number(rt, length as u64, b"\n");
+        } => println!(rt; "call {named} {host} {revision} {function} {length}"),
+        Entry::Tick => println!(rt; "tick"),
+        Entry::Power { named } => println!(rt; "power {named}"),
+        Entry::Health { named, reading } => {
+            let Reading {
+                spare,
+                media,
+                controller,
+            } = reading;
+            println!(rt; "health {named} {spare} {media} {controller}")
         }
-        Entry::Tick => print(rt, b"tick\n"),
-        Entry::Power { named } => {
-            print(rt, b"power ");
-            print_number(rt, named as u64, b"\n");
-        }
-        Entry::Health {
-            named,
-            spare,
-            media,
-            controller,
-        } => {
-            print(rt, b"health ");
-            print_number(rt, named as u64, b" ");
-            print_number(rt, spare as u64, b" ");
-            print_number(rt, media as u64, b" ");
-            print_number(rt, controller as u64, b"\n");
-        }
-        Entry::Bad => print(rt, b"bad\n"),
-    }
+        Entry::Bad => println!(rt; "bad"),
+    };
 }
 
-fn print_found<R: Print>(rt: &R, place: u64, found: Found) {
-    print_number(rt, place, b" ");
+fn print_found<R: Print>(rt: &R, place: usize, found: Found) {
+    let _ = print!(rt; "{place} ");
     match found {
         Found::Record(entry) => print_entry(rt, entry),
-        Found::Short => print(rt, b"short\n"),
-        Found::End => print(rt, b"end\n"),
+        Found::Short => {
+            let _ = println!(rt; "short");
+        }
+        Found::End => {
+            let _ = println!(rt; "end");
+        }
     }
 }
 
@@ -89,13 +65,10 @@ fn first_of(log: &[u8]) -> Stood
 // From a place on, so many steps.
 fn print_walk<R: Print>(rt: &R, log: &[u8], from: usize, steps: u64) {
     let mut place = from;
-    let mut step = 0;
-    while step < steps {
+    for _ in 0..steps {
         let stood = log_reader::read_at(log, place);
-        let found = stood.found;
-        print_found(rt, place as u64, found);
+        print_found(rt, place, stood.found);
         place = stood.place;
-        step += 1;
     }
 }
 
@@ -131,41 +104,33 @@ fn tick_mine(c: Cabinet, area: &[u8]) -> Outcome
 }
 
 fn print_verdict<R: Print>(rt: &R, verdict: Verdict) {
-    match verdict {
-        Verdict::Accepted => print(rt, b"accepted "),
-        Verdict::Refused(refusal) => match refusal {
-            Refusal::R { number } => {
-                print(rt, b"R");
-                print_number(rt, number as u64, b" ");
-            }
-            Refusal::Status { status, ext: _ } => print_number(rt, status as u64, b" "),
-        },
-    }
+    let _ = match verdict {
+        Ok(()) => print!(rt; "accepted "),
+        Err(Refusal::R { number }) => print!(rt; "R{number} "),
+        Err(Refusal::Status { status, ext: _ }) => print!(rt; "{status} "),
+    };
 }
 
-fn print_phase<R: Print>(rt: &R, phase: Phase) {
+// A phase, as a word.
+fn word_of(phase: Phase) -> &'static str {
     match phase {
-        Phase::Idle => print(rt, b"idle "),
-        Phase::Receiving => print(rt, b"receiving "),
-        Phase::Verifying => print(rt, b"verifying "),
-        Phase::Staged => print(rt, b"staged "),
-        Phase::Failed => print(rt, b"failed "),
+        Phase::Idle => "idle",
+        Phase::Receiving => "receiving",
+        Phase::Verifying => "verifying",
+        Phase::Staged => "staged",
+        Phase::Failed => "failed",
     }
 }
 
 // The record is ticked in place; the verdict, and the phase and the ticks left of module 0 afterwards.
 fn print_tick<R: Print>(rt: &R, c: Cabinet, area: &[u8]) -> Cabinet {
     let ticked = tick_mine(c, area);
-    let reply = ticked.reply;
-    let verdict = reply.verdict;
-    let after = ticked.cabinet;
-    let first = after.first;
-    let transfer = first.transfer;
-    let phase = transfer.phase;
-    print_verdict(rt, verdict);
-    print_phase(rt, phase);
-    print_number(rt, transfer.ticks as u64, b"\n");
-    after
+    let transfer = ticked.cabinet.first.transfer;
+    let phase = word_of(transfer.phase);
+    let ticks = transfer.ticks;
+    print_verdict(rt, ticked.reply.verdict);
+    let _ = println!(rt; "{phase} {ticks}");
+    ticked.cabinet
 }
 
 // A log of a Start to module 1 from host 1 at revision 2, a tick, a record of no known kind, and 10 bytes over.
@@ -175,22 +140,21 @@ fn walk_log<R: Print>(rt: &R) {
     log[1] = 17;
     log[2] = 2;
     log[4] = 13;
-    log[RECORD] = 2;
-    log[2 * RECORD] = 9;
+    log[LOG_RECORD] = 2;
+    log[2 * LOG_RECORD] = 9;
     let first = first_of(&log);
-    let found = first.found;
-    print_found(rt, 0, found);
+    print_found(rt, 0, first.found);
     print_walk(rt, &log, first.place, 5);
     print_walk(rt, &log, 9, 1);
 }
 
 // Two ticks left, one, none; an area that is too short; a record that is not possible.
 fn tick_records<R: Print>(rt: &R) {
-    let area = [0u8; AREA];
+    let area = [0u8; AREA_SIZE];
     let c = print_tick(rt, verifying(2), &area);
     let d = print_tick(rt, c, &area);
     print_tick(rt, d, &area);
-    print_tick(rt, verifying(2), &area[..16383]);
+    print_tick(rt, verifying(2), &area[..AREA_SIZE - 1]);
     print_tick(rt, verifying(9), &area);
 }
 

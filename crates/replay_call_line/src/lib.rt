@@ -12,11 +12,9 @@ pub fn printed_status(verdict: Verdict) -> u64
     ensures { result ≡ printed_status verdict }
 {
     match verdict {
-        Verdict::Accepted => 0,
-        Verdict::Refused(refusal) => match refusal {
-            Refusal::R { number } => number as u64,
-            Refusal::Status { status, ext: _ } => status as u64,
-        },
+        Ok(()) => 0,
+        Err(Refusal::R { number }) => number as u64,
+        Err(Refusal::Status { status, .. }) => status as u64,
     }
 }
 
@@ -24,11 +22,8 @@ fn printed_ext(verdict: Verdict) -> u64
     ensures { result ≡ printed_ext verdict }
 {
     match verdict {
-        Verdict::Accepted => 0,
-        Verdict::Refused(refusal) => match refusal {
-            Refusal::R { number: _ } => 0,
-            Refusal::Status { status: _, ext } => ext as u64,
-        },
+        Ok(()) | Err(Refusal::R { .. }) => 0,
+        Err(Refusal::Status { ext, .. }) => ext as u64,
     }
 }
 
@@ -37,15 +32,13 @@ pub fn put_call(out: &mut [u8], at: usize, number: u64, function: u64, reply: Re
     requires { at + line_room ≤ length out.old }
     ensures { WroteWithin line_room out.old at (call_line number function reply) out.new result }
 {
-    let verdict = reply.verdict;
     let length = reply.length as u64;
-    let mask = function == 0;
-    if mask {
+    if function == 0 {
         let next = text::put_field(out, at, number, b" call - - ");
         return text::put_field(out, next, length, b"\n");
     }
-    let status = printed_status(verdict);
-    let ext = printed_ext(verdict);
+    let status = printed_status(reply.verdict);
+    let ext = printed_ext(reply.verdict);
     let a = text::put_field(out, at, number, b" call ");
     let b = text::put_field(out, a, status, b" ");
     let c = text::put_field(out, b, ext, b" ");

@@ -5,7 +5,7 @@ ghost use Rattle.std.specs.Prelude.{true, ◌+◌, ◌≤◌, length};
 ghost use Rattle.rules.specs.Replay.{heading, tail_line, line_end, last_line, last_lines};
 ghost use Rattle.text.specs.Wrote.{WroteWithin, line_room};
 
-use rules::{Cabinet, Device, Transfer};
+use rules::{Cabinet, Device, Phase, Transfer};
 
 pub fn put_heading(out: &mut [u8], at: usize) -> usize
     requires { at + line_room ≤ length out.old }
@@ -27,9 +27,7 @@ fn put_line_end(out: &mut [u8], at: usize, t: Transfer) -> usize
     requires { at + 30 ≤ length out.old }
     ensures { WroteWithin 30 out.old at (line_end t) out.new result }
 {
-    let phase = t.phase;
-    let failed = device_phase::phase_number(phase) == 4;
-    if !failed {
+    if t.phase != Phase::Failed {
         return text::put(out, at, b"\n");
     }
     let named = text::put(out, at, b" ");
@@ -43,13 +41,11 @@ fn put_last(out: &mut [u8], at: usize, contexts: u32, d: Device) -> usize
     requires { at + line_room ≤ length out.old }
     ensures { WroteWithin line_room out.old at (last_line contexts d) out.new result }
 {
-    let transfer = d.transfer;
-    let phase = transfer.phase;
     let named = text::put(out, at, b"end ");
-    let spaced = text_phase::put_phase(out, named, phase);
+    let spaced = text_phase::put_phase(out, named, d.transfer.phase);
     let counted = text::put(out, spaced, b" ");
     let end = text::put_decimal(out, counted, contexts as u64);
-    put_line_end(out, end, transfer)
+    put_line_end(out, end, d.transfer)
 }
 
 // The last line of each module.

@@ -27,20 +27,15 @@ pub fn play_at(
     requires answer_len { length answer.old ≡ answer_room }
     ensures { PlaceReplayed number (whole_of c area.old) log.now place out.old at out.new area.new result }
 {
-    let stood = log_reader::read_at(log, place);
-    let found = stood.found;
-    match found {
+    match log_reader::read_at(log, place).found {
         Found::Record(entry) => {
             let start = place * LOG_RECORD;
             let end = start + LOG_RECORD;
             replay_play::play_entry(out, at, number, c, area, answer, entry, &log[start..end])
         }
         Found::Short => {
-            let next = replay_lines::put_tail(out, at, number);
-            Played {
-                at: next,
-                cabinet: c,
-            }
+            let at = replay_lines::put_tail(out, at, number);
+            Played { at, cabinet: c }
         }
         Found::End => Played { at, cabinet: c },
     }
@@ -60,15 +55,10 @@ pub fn put_lines(
     requires answer_len { length answer.old ≡ answer_room }
     ensures { PartReplayed (records_in part.now * line_room) number (whole_of c area.old) part.now out.old out.new area.new result }
 {
-    let count = part.len() / LOG_RECORD;
     let mut played = Played { at: 0, cabinet: c };
-    let mut j = 0;
-    while j < count {
-        let at = played.at;
-        let cabinet = played.cabinet;
+    for j in 0..part.len() / LOG_RECORD {
         let next = number + j as u64;
-        played = play_at(out, at, next, cabinet, area, answer, part, j);
-        j += 1;
+        played = play_at(out, played.at, next, played.cabinet, area, answer, part, j);
     }
     played
 }

@@ -12,7 +12,7 @@ of_entry : (number : ℕ) (w : Whole) (entry : Entry) (request : List ℕ) → r
 of_entry number w (Call named host revision index size) request = refl
 of_entry number w Tick request = refl
 of_entry number w (Power named) request = refl
-of_entry number w (Health named spare media controller) request = refl
+of_entry number w (Health named new) request = refl
 of_entry number w Bad request = refl
 
 pub of_record : (number : ℕ) (w : Whole) (bytes : List ℕ) {entry : Entry} {reply : Reply} → entry ≡ entry_of bytes → reply ≡ record_reply w bytes

@@ -14,7 +14,7 @@ abbrev pub reply_line : (number : ℕ) → Entry → Reply → List ℕ
 reply_line number (Call named host revision index size) reply = call_line number index reply
 reply_line number Tick reply = field number " tick\n"
 reply_line number (Power named) reply = field number " power\n"
-reply_line number (Health named spare media controller) reply = field number " health\n"
+reply_line number (Health named new) reply = field number " health\n"
 reply_line number Bad reply = field number " bad\n"
 
 -- The text was written over old at a place, and new came of it; it took no more room than so much; the record that is answered and the area as it was left are

@@ -8,10 +8,11 @@ ghost use Rattle.rules.specs.Record.{whole_of};
 ghost use Rattle.rules.specs.Log.{entry_of};
 ghost use Rattle.replay_play.specs.Replayed.{reply_line, RecordReplayed};
 
+use cabinet::Outcome;
 use rules::{Cabinet, Entry, Reply};
 
 // The place after what was written, and the record after what was played.
-#[derive(Drop)]
+#[derive(Clone, Copy)]
 pub struct Played {
     pub at: usize,
     pub cabinet: Cabinet,
@@ -23,21 +24,12 @@ fn put_entry(out: &mut [u8], at: usize, number: u64, entry: Entry, reply: Reply)
     ensures { WroteWithin line_room out.old at (reply_line number entry reply) out.new result }
 {
     match entry {
-        Entry::Call {
-            named: _,
-            host: _,
-            revision: _,
-            function,
-            length: _,
-        } => replay_call_line::put_call(out, at, number, function as u64, reply),
+        Entry::Call { function, .. } => {
+            replay_call_line::put_call(out, at, number, function as u64, reply)
+        }
         Entry::Tick => text::put_field(out, at, number, b" tick\n"),
-        Entry::Power { named: _ } => text::put_field(out, at, number, b" power\n"),
-        Entry::Health {
-            named: _,
-            spare: _,
-            media: _,
-            controller: _,
-        } => text::put_field(out, at, number, b" health\n"),
+        Entry::Power { .. } => text::put_field(out, at, number, b" power\n"),
+        Entry::Health { .. } => text::put_field(out, at, number, b" health\n"),
         Entry::Bad => text::put_field(out, at, number, b" bad\n"),
     }
 }
@@ -58,9 +50,7 @@ pub fn play_entry(
     requires value { entry ≡ entry_of bytes.now }
     ensures { RecordReplayed number (whole_of c area.old) bytes.now out.old at out.new area.new result }
 {
-    let outcome = replay_step::play(c, area, answer, entry, bytes);
-    let reply = outcome.reply;
-    let cabinet = outcome.cabinet;
+    let Outcome { cabinet, reply } = replay_step::play(c, area, answer, entry, bytes);
     let next = put_entry(out, at, number, entry, reply);
     Played { at: next, cabinet }
 }

@@ -5,7 +5,9 @@ use Prim.Native.Nat.{ℕ}
 use lib.ListN.{length}
 use Rattle.rules.{specs.Tests.◌<?◌, specs.Numbers.answer_room, specs.Record.{Whole, standing}, specs.Refusals.{◌gives◌, verdict, event_checks}}
 use Rattle.rules.{specs.Table.{row_of, served_check, length_check}, specs.Module.{Call, call_in, checks}, specs.Cabinet.{Result, outcome, call_result}}
-use Rattle.rules.{specs.declared.Refusal.TheVariants.{R, Status}, specs.declared.Verdict.Verdict, specs.declared.Verdict.TheVariants.{Accepted, Refused}}
+use Rattle.rules.{specs.declared.Refusal.TheVariants.{R, Status}}
+use Rattle.rules.specs.Refusals.{Verdict}
+use Rattle.std.specs.Prelude.{Ok, Err}
 
 -- two results that differ in the answer buffer alone
 pub record Alike (x y : Result) : Type 0 where
@@ -22,9 +24,9 @@ module _ (w : Whole) (named revision index : ℕ) (request a b : List ℕ) where
       verdict ((room <? answer_room gives R 1) ∷ event_checks w named ++ (served_check revision index ∷ length_check index request ∷ checks (standing named w) made))
 
   alike : (v : Verdict) → Alike (outcome v w named made (row_of index).answer a) (outcome v w named made (row_of index).answer b)
-  alike Accepted = record { reply_is = refl; after_is = refl }
-  alike (Refused (R number)) = record { reply_is = refl; after_is = refl }
-  alike (Refused (Status status ext)) = record { reply_is = refl; after_is = refl }
+  alike (Ok tt) = record { reply_is = refl; after_is = refl }
+  alike (Err (R number)) = record { reply_is = refl; after_is = refl }
+  alike (Err (Status status ext)) = record { reply_is = refl; after_is = refl }
 
   pub any_buffer : length a ≡ length b → Alike (call_result w named revision index request a) (call_result w named revision index request b)
   unfolding call_result

@@ -8,10 +8,12 @@ use Rattle.rules.{specs.Bytes.zeros, specs.Numbers.answer_room, specs.Record.Who
 use Rattle.std.specs.Prelude.{if◌then◌else◌}
 use Rattle.rules.{specs.Tests.{◌≤?◌, ◌=?◌}, specs.Bytes.zeros?, specs.Health.new_reading, proofs.page.Choice.and_true}
 use Rattle.rules.specs.Log.{record_size, kind_in, named_in, host_in, revision_in, function_in, length_in, request_in, padded, good_call, bare, names_module, good_power, spare_in, media_in, controller_in, good_reading, entry_of}
-use Rattle.rules.{specs.Replay.{played, record_played}, specs.Demand1.{buffer_too_short, module_over1, spare_over100, MayGive}, specs.declared.Refusal.TheVariants.{R, Status}, specs.declared.Verdict.Verdict}
-use Rattle.rules.{specs.declared.Verdict.TheVariants.{Accepted, Refused}, specs.declared.Entry.Entry, specs.declared.Entry.TheVariants.{Call, Tick, Power, Health, Bad}}
+use Rattle.rules.{specs.Replay.{played, record_played}, specs.Demand1.{buffer_too_short, module_over1, spare_over100, MayGive}, specs.declared.Refusal.TheVariants.{R, Status}}
+use Rattle.rules.{specs.declared.Entry.Entry, specs.declared.Entry.TheVariants.{Call, Tick, Power, Health, Bad}}
 use Rattle.rules.{proofs.page.Past.{NoR, EventPassed}, proofs.page.Possible.{possible_next, area_next, no_other_R}}
 use Rattle.replay_step.specs.Stepped.{entry_reply, record_verdict}
+use Rattle.rules.specs.Refusals.{Verdict}
+use Rattle.std.specs.Prelude.{Ok, Err}
 
 event_sound : (w : Whole) (event : Event) → buffer_too_short event ≡ false → module_over1 event ≡ false → spare_over100 event ≡ false → EventPassed w
     → EventPassed (step w event).after × NoR (step w event).reply.verdict
@@ -21,21 +23,21 @@ event_sound w event room there low s = (
 )
   where
     go : (v : Verdict) → (step w event).reply.verdict ≡ v → NoR v
-    go Accepted e = tt
-    go (Refused (R number)) e = absurd (none (no_other_R w event number s.sound s.whole e))
+    go (Ok tt) e = tt
+    go (Err (R number)) e = absurd (none (no_other_R w event number s.sound s.whole e))
       where
         none : MayGive number event → ⊥
         none (inl q) = true≢false (sym q.1 ∙ room)
         none (inr (inl q)) = true≢false (sym q.1 ∙ there)
         none (inr (inr q)) = true≢false (sym q.1 ∙ low)
-    go (Refused (Status status ext)) e = tt
+    go (Err (Status status ext)) e = tt
 
 -- what a log record names is a module that there is, and a reading that it says has a spare of at most 100
 abbrev EntryOk : Entry → Type 0
 EntryOk (Call named host revision index size) = named ≤ 1
 EntryOk Tick = Unit {0}
 EntryOk (Power named) = named ≤ 1
-EntryOk (Health named spare media controller) = (named ≤ 1) × (spare ≤ 100)
+EntryOk (Health named new) = (named ≤ 1) × (new.spare ≤ 100)
 EntryOk Bad = Unit {0}
 
 module _ (bytes : List ℕ) where
@@ -66,7 +68,7 @@ module _ (bytes : List ℕ) where
       (kind_in bytes =? 4 && good_reading bytes) refl
     where
       go : (a b : Bool) → (kind_in bytes =? 1 && good_call bytes) ≡ b → (c d : Bool) → (kind_in bytes =? 3 && good_power bytes) ≡ d → (h : Bool) → (kind_in bytes =? 4 && good_reading bytes) ≡ h
-          → EntryOk (if a then Bad else if b then Call (named_in bytes) (host_in bytes) (revision_in bytes) (function_in bytes) (length_in bytes) else if c then Tick else if d then Power (named_in bytes) else if h then Health (named_in bytes) (spare_in bytes) (media_in bytes) (controller_in bytes) else Bad)
+          → EntryOk (if a then Bad else if b then Call (named_in bytes) (host_in bytes) (revision_in bytes) (function_in bytes) (length_in bytes) else if c then Tick else if d then Power (named_in bytes) else if h then Health (named_in bytes) (new_reading (spare_in bytes) (media_in bytes) (controller_in bytes)) else Bad)
       go true b e c d f h g = tt
       go false true e c d f h g = of_call e
       go false false e true d f h g = tt
@@ -83,5 +85,5 @@ no_R_law w bytes s = go (entry_of bytes) (entry_ok bytes)
         event_sound w (call host named revision index (request_in bytes) (zeros answer_room)) refl (le-ltb 1 named ok) refl s
     go Tick ok = event_sound w tick refl refl refl s
     go (Power named) ok = event_sound w (power named) refl (le-ltb 1 named ok) refl s
-    go (Health named spare media controller) ok = event_sound w (reading named (new_reading spare media controller)) refl (le-ltb 1 named ok.0) (le-ltb 100 spare ok.1) s
+    go (Health named new) ok = event_sound w (reading named new) refl (le-ltb 1 named ok.0) (le-ltb 100 new.spare ok.1) s
     go Bad ok = (s, tt)

@@ -4,19 +4,20 @@ use mathlib.Core.{Path.◌≡◌, List.List}
 use Rattle.std.specs.Prelude.{ℕ}
 use Rattle.rules.specs.Record.{Whole, whole_of}
 use Rattle.rules.specs.Cabinet.{tick_result, power_result, reading_result}
-use Rattle.rules.specs.Health.{new_reading}
 use Rattle.rules.specs.Log.{entry_of, request_in}
 use Rattle.rules.specs.Replay.{replay_call, record_played}
-use Rattle.rules.specs.declared.{Verdict.Verdict, Verdict.TheVariants.Accepted, Reply.Reply, Entry.Entry, Entry.TheVariants.{Call, Tick, Power, Health, Bad}}
+use Rattle.rules.specs.declared.{Reply.Reply, Entry.Entry, Entry.TheVariants.{Call, Tick, Power, Health, Bad}}
 use Rattle.cabinet.specs.declared.Outcome.{Outcome}
+use Rattle.rules.specs.Refusals.{Verdict}
+use Rattle.std.specs.Prelude.{Ok}
 
 -- the reply to what a log record plays; a bad record plays nothing, so that nothing is refused and no byte answered
 abbrev pub entry_reply : Whole → Entry → (request : List ℕ) → Reply
 entry_reply w (Call named host revision index size) request = (replay_call w named revision index request).reply
 entry_reply w Tick request = (tick_result w).reply
 entry_reply w (Power named) request = (power_result w named).reply
-entry_reply w (Health named spare media controller) request = (reading_result w named (new_reading spare media controller)).reply
-entry_reply w Bad request = record { verdict = Accepted; length = 0 }
+entry_reply w (Health named new) request = (reading_result w named new).reply
+entry_reply w Bad request = record { verdict = Ok tt; length = 0 }
 
 abbrev pub record_reply : Whole → (bytes : List ℕ) → Reply
 record_reply w bytes = entry_reply w (entry_of bytes) (request_in bytes)

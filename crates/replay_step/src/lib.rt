@@ -8,7 +8,7 @@ ghost use Rattle.rules.specs.Log.{entry_of};
 ghost use Rattle.replay_step.specs.Stepped.{Stepped};
 
 use cabinet::Outcome;
-use rules::{Cabinet, Entry, Reading, Reply, Verdict};
+use rules::{Cabinet, Entry, Reply};
 
 // The answer buffer is lent by the caller, so that it is made once for a log, and may hold anything. A bad record plays nothing.
 pub fn play(c: Cabinet, area: &mut [u8], answer: &mut [u8], entry: Entry, bytes: &[u8]) -> Outcome
@@ -19,36 +19,29 @@ pub fn play(c: Cabinet, area: &mut [u8], answer: &mut [u8], entry: Entry, bytes:
     match entry {
         Entry::Call {
             named,
-            host: _,
             revision,
             function,
             length,
+            ..
         } => {
-            let n = named as u64;
-            let v = revision as u64;
-            let f = function as u64;
-            let end = 8 + length as usize;
-            cabinet::call(c, area, n, v, f, &bytes[8..end], answer)
+            let request = &bytes[8..8 + length as usize];
+            cabinet::call(
+                c,
+                area,
+                named as u64,
+                revision as u64,
+                function as u64,
+                request,
+                answer,
+            )
         }
         Entry::Tick => cabinet::tick(c, area),
         Entry::Power { named } => cabinet::power(c, area, named as u64),
-        Entry::Health {
-            named,
-            spare,
-            media,
-            controller,
-        } => {
-            let new = Reading {
-                spare,
-                media,
-                controller,
-            };
-            cabinet::reading(c, area, named as u64, new)
-        }
+        Entry::Health { named, reading } => cabinet::reading(c, area, named as u64, reading),
         Entry::Bad => Outcome {
             cabinet: c,
             reply: Reply {
-                verdict: Verdict::Accepted,
+                verdict: Ok(()),
                 length: 0,
             },
         },

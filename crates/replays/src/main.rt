@@ -9,11 +9,11 @@ ghost use Rattle.text.specs.Wrote.{WroteWithin};
 ghost use Rattle.rules.specs.Record.{whole_of};
 ghost use Rattle.replay_play.specs.Replayed.{Replayed};
 ghost use Rattle.replay_log.specs.Places.{PartReplayed};
-ghost use Rattle.program_logs.specs.Turns.{Standing, part_size};
+ghost use Rattle.program_logs.specs.Turns.{part_size};
 ghost use Rattle.replays.specs.Turned.{text_room, TurnReplayed};
 
-use program_files::{PART, System};
-use program_logs::{Logs, NAME, Turn};
+use program_files::PART;
+use program_logs::{Logs, Turn};
 use replay_play::Played;
 use rules::{ANSWER_ROOM, AREA_SIZE, Cabinet};
 use std::process::ExitCode;
@@ -33,22 +33,21 @@ fn begin(out: &mut [u8; TEXT], area: &mut [u8; AREA_SIZE]) -> Played
     }
 }
 
-// The lines of the front of a buffer, of at most 120 records.
+// The lines of a part, of at most 120 records.
 fn put_part(
     out: &mut [u8],
-    buf: &[u8],
-    have: usize,
+    part: &[u8],
     number: u64,
     c: Cabinet,
     area: &mut [u8],
     answer: &mut [u8],
 ) -> Played
-    requires have_le_part_size { (have ≤ part_size) × (have ≤ length buf.now) }
+    requires part_len { length part.now ≤ part_size }
     requires number_bound { number ≤ 9000000000000000000 }
     requires text_room_in_bounds { (text_room ≤ length out.old) × (length answer.old ≡ answer_room) }
-    ensures { PartReplayed text_room number (whole_of c area.old) (take have buf.now) out.old out.new area.new result }
+    ensures { PartReplayed text_room number (whole_of c area.old) part.now out.old out.new area.new result }
 {
-    replay_log::put_lines(out, &buf[0..have], number, c, area, answer)
+    replay_log::put_lines(out, part, number, c, area, answer)
 }
 
 // The line of a short tail, if there is one, and the last lines.
@@ -71,45 +70,32 @@ fn turn(
     area: &mut [u8; AREA_SIZE],
     answer: &mut [u8; ANSWER_ROOM],
 ) -> Played
-    requires { Standing logs }
     ensures { TurnReplayed logs.turn logs.number (whole_of c area.old) (take logs.have buf.now) out.old out.new area.new result }
 {
     let turn = logs.turn;
     match turn {
         Turn::Beginning => begin(out, area),
-        Turn::Part => put_part(out, buf, logs.have, logs.number, c, area, answer),
+        Turn::Part => put_part(out, logs.part(buf), logs.number, c, area, answer),
         Turn::End { short } => {
             let at = put_end(out, logs.number, short, c);
             Played { at, cabinet: c }
         }
-        Turn::Unreadable => Played { at: 0, cabinet: c },
-        Turn::Nothing => Played { at: 0, cabinet: c },
+        Turn::Unreadable | Turn::Nothing => Played { at: 0, cabinet: c },
     }
-}
-
-fn show<R: System>(rt: &R, logs: Logs, out: &[u8; TEXT], end: usize) -> Logs
-    requires { Standing logs × (end ≤ text_room) }
-    ensures { Standing result × (result.left ≡ logs.left) }
-{
-    program_logs::show(rt, logs, out, end)
 }
 
 fn main(rt: HostRuntime) -> ExitCode {
-    let mut buf = [0u8; PART];
-    let mut name = [0u8; NAME];
     let mut out = [0u8; TEXT];
     let mut area = [0u8; AREA_SIZE];
     let mut answer = [0u8; ANSWER_ROOM];
-    let mut log = program_files::no_log();
-    let mut logs = program_logs::before(1);
-    let mut played = Played {
-        at: 0,
-        cabinet: cabinet_record::fresh(),
-    };
-    while logs.left > 0 {
-        logs = program_logs::next(&rt, logs, &mut log, &mut buf, &mut name);
-        played = turn(logs, played.cabinet, &buf, &mut out, &mut area, &mut answer);
-        logs = show(&rt, logs, &out, played.at);
+    let mut cabinet = cabinet_record::fresh();
+    let gone_through = program_logs::go_through(&rt, |logs, buf, _name| {
+        let played = turn(logs, cabinet, buf, &mut out, &mut area, &mut answer);
+        cabinet = played.cabinet;
+        program_files::show(&rt, &out[..played.at])
+    });
+    match gone_through {
+        Ok(()) => ExitCode::SUCCESS,
+        Err(unwritten) => ExitCode::from(unwritten),
     }
-    program_files::status(logs.closed)
 }

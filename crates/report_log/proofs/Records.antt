@@ -11,7 +11,7 @@ of_entry : (w : Whole) (entry : Entry) (request : List ℕ) → counted_by entry
 of_entry w (Call named host revision index size) request = refl
 of_entry w Tick request = refl
 of_entry w (Power named) request = refl
-of_entry w (Health named spare media controller) request = refl
+of_entry w (Health named new) request = refl
 of_entry w Bad request = refl
 
 entry_cell : (w : Whole) (entry : Entry) (request : List ℕ) → hosts_of entry → HasCell entry (entry_reply w entry request)
@@ -19,7 +19,7 @@ unfolding hosts_of
 entry_cell w (Call named host revision index size) request g = (g.least, g.most, status_most w named revision index request)
 entry_cell w Tick request g = tt
 entry_cell w (Power named) request g = tt
-entry_cell w (Health named spare media controller) request g = tt
+entry_cell w (Health named new) request g = tt
 entry_cell w Bad request g = tt
 
 module _ (w : Whole) (bytes : List ℕ) {entry : Entry} {reply : Reply} (decoded : entry ≡ entry_of bytes) (played : reply ≡ record_reply w bytes) where

@@ -6,7 +6,7 @@ use Rattle.rules.specs.Record.{Whole, whole_of}
 use Rattle.rules.specs.Log.{records_in, record_at, short_tail}
 use Rattle.rules.specs.Replay.{replay_start, record_played, whole_after}
 use Rattle.rules.specs.Report.{Report, record_counted, Fed, fed_if, feed, fits}
-use Rattle.report_tally.specs.Tally.{Tally, tallied, tallied_tail, Tallies}
+use Rattle.report_tally.specs.Tally.{Tally, tally_of, tallied, tallied_tail}
 use Rattle.report_log.specs.declared.Going.{Going}
 
 -- the tally after the first j records of a log, which is replayed from the cabinet w
@@ -14,16 +14,16 @@ unfoldable pub tally_after : Tally → Whole → (log : List ℕ) (j : ℕ) → 
 tally_after t w log zero = t
 tally_after t w log (suc j) = tallied (record_counted (whole_after w log j) (record_at log j)) (tally_after t w log j)
 
--- grid, counts and flag are those of the tally; the record and the area are the cabinet
-pub record GoesOn (t : Tally) (w : Whole) (grid : List (List ℕ)) (area : List ℕ) (going : Going) : Type 0 where
-  pub tally_is : Tallies t grid going.counting
+-- what is counted is the tally; the record and the area are the cabinet
+pub record GoesOn (t : Tally) (w : Whole) (area : List ℕ) (going : Going) : Type 0 where
+  pub tally_is : tally_of going.counting ≡ t
   pub whole_is : whole_of going.cabinet area ≡ w
 
-abbrev pub RecordTallied : Tally → Whole → (bytes : List ℕ) (grid : List (List ℕ)) (area : List ℕ) → Going → Type 0
-RecordTallied t w bytes grid area going = GoesOn (tallied (record_counted w bytes) t) (record_played w bytes) grid area going
+abbrev pub RecordTallied : Tally → Whole → (bytes area : List ℕ) → Going → Type 0
+RecordTallied t w bytes area going = GoesOn (tallied (record_counted w bytes) t) (record_played w bytes) area going
 
-abbrev pub PartTallied : Tally → Whole → (part : List ℕ) (grid : List (List ℕ)) (area : List ℕ) → Going → Type 0
-PartTallied t w part grid area going = GoesOn (tally_after t w part (records_in part)) (whole_after w part (records_in part)) grid area going
+abbrev pub PartTallied : Tally → Whole → (part area : List ℕ) → Going → Type 0
+PartTallied t w part area going = GoesOn (tally_after t w part (records_in part)) (whole_after w part (records_in part)) area going
 
 -- before the first record of a log
 abbrev pub begun : Report → Tally

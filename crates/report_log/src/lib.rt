@@ -10,58 +10,33 @@ ghost use Rattle.report_log.specs.Parts.{RecordTallied, PartTallied};
 use report_tally::Counting;
 use rules::{Cabinet, LOG_RECORD};
 
-// The counts beside the grid, and the record after what was played.
+// What is counted of a log, and the cabinet after what was played of it.
 #[derive(Clone, Copy)]
 pub struct Going {
     pub counting: Counting,
     pub cabinet: Cabinet,
 }
 
-// The answer buffer is lent by the caller, so that it is made once for a log, and may hold anything.
-fn count_record(
-    grid: &mut [[u32; 12]; 4],
-    counting: Counting,
-    c: Cabinet,
-    area: &mut [u8],
-    answer: &mut [u8],
-    record: &[u8],
-) -> Going
-    requires { length answer.old ≡ answer_room }
-    ensures { RecordTallied (tally_of grid.old counting.counts counting.full) (whole_of c area.old) «record».now grid.new area.new result }
-{
-    let entry = log_record::decode(record);
-    let outcome = replay_step::play(c, area, answer, entry, record);
-    let reply = outcome.reply;
-    let cabinet = outcome.cabinet;
-    let counting = report_tally::count(grid, counting, entry, reply);
-    Going { counting, cabinet }
-}
-
-// The whole records of a part of a log, one by one; a tail is left to the caller.
-pub fn count_part(
-    grid: &mut [[u32; 12]; 4],
-    counting: Counting,
-    c: Cabinet,
-    area: &mut [u8],
-    answer: &mut [u8],
-    part: &[u8],
-) -> Going
-    requires { length answer.old ≡ answer_room }
-    ensures { PartTallied (tally_of grid.old counting.counts counting.full) (whole_of c area.old) part.now grid.new area.new result }
-{
-    let count = part.len() / LOG_RECORD;
-    let mut going = Going {
-        counting,
-        cabinet: c,
-    };
-    let mut j = 0;
-    while j < count {
-        let start = j * LOG_RECORD;
-        let end = start + LOG_RECORD;
-        let counting = going.counting;
-        let cabinet = going.cabinet;
-        going = count_record(grid, counting, cabinet, area, answer, &part[start..end]);
-        j += 1;
+impl Going {
+    // The answer buffer is lent by the caller, so that it is made once for a log, and may hold anything.
+    fn count_record(&mut self, area: &mut [u8], answer: &mut [u8], record: &[u8])
+        requires { length answer.old ≡ answer_room }
+        ensures { RecordTallied (tally_of self.old.counting) (whole_of self.old.cabinet area.old) «record».now area.new self.new }
+    {
+        let entry = log_record::decode(record);
+        let outcome = replay_step::play(self.cabinet, area, answer, entry, record);
+        let reply = outcome.reply;
+        self.cabinet = outcome.cabinet;
+        self.counting.count(entry, reply);
     }
-    going
+
+    // The whole records of a part of a log, one by one; a tail is left to the caller.
+    pub fn count_part(&mut self, area: &mut [u8], answer: &mut [u8], part: &[u8])
+        requires { length answer.old ≡ answer_room }
+        ensures { PartTallied (tally_of self.old.counting) (whole_of self.old.cabinet area.old) part.now area.new self.new }
+    {
+        for record in part.chunks_exact(LOG_RECORD) {
+            self.count_record(area, answer, record);
+        }
+    }
 }

@@ -1,21 +1,29 @@
 -- Document 02, T-01: a report while a log is counted, record by record. Once a count would pass the largest nothing more is counted: the log will be refused.
 -- Assumes nothing.
-use mathlib.Core.{Path.◌≡◌, Bool.{Bool, true, false, not, ◌||◌}, List.{List, []}}
-use Rattle.std.specs.Prelude.{ℕ, ◌-◌, ◌≤◌, get_or}
+use mathlib.Core.{Bool.{Bool, true, false, ◌||◌}, List.{[]}}
+use Rattle.std.specs.Prelude.{ℕ, ◌+◌, ◌-◌, ◌≤◌, get_or, Result, Ok, Err}
 use Rattle.std.specs.Prelude.{if◌then◌else◌}
+use Rattle.std.specs.Result.{is_err}
 use Rattle.rules.specs.Tests.{◌≤?◌, ◌=?◌}
 use Rattle.rules.specs.Replay.{printed_status}
-use Rattle.rules.specs.Report.{Report, Counted, answered, masked, ticked, powered, measured, bad, raised, raised_short, with_tail, largest_count}
-use Rattle.rules.specs.declared.{Counts.Counts, Reply.Reply, Entry.Entry, Entry.TheVariants.{Call, Tick, Power, Health, Bad}}
-use Rattle.report_tally.specs.declared.Counting.{Counting}
+use Rattle.rules.specs.Report.{Report, Counted, answered, masked, ticked, powered, measured, bad, raised, with_tail, largest_count}
+use Rattle.rules.specs.declared.{Reply.Reply, Entry.Entry, Entry.TheVariants.{Call, Tick, Power, Health, Bad}}
+use Rattle.report_tally.specs.declared.{Report.Report as Held, Counting.Counting, LogTooMany.LogTooMany}
 
 -- what was counted so far, and whether a count would have passed the largest
 pub record Tally : Type 0 where
   pub report : Report
   pub full : Bool
 
-abbrev pub tally_of : (grid : List (List ℕ)) → Counts → (full : Bool) → Tally
-tally_of grid counts full = record { report = record { grid = grid; counts = counts }; full = full }
+-- the page's report that a report of the code is; and the tally that is held
+abbrev pub page_report : Held → Report
+page_report r = record { grid = r.grid; counts = r.counts }
+
+abbrev pub tally_with : Held → Result Unit LogTooMany → Tally
+tally_with r taken = record { report = page_report r; full = is_err taken }
+
+abbrev pub tally_of : Counting → Tally
+tally_of c = tally_with c.report c.taken
 
 -- the count that a record raises
 abbrev pub count_of : Counted → Report → ℕ
@@ -44,7 +52,7 @@ abbrev pub counted_by : Entry → Reply → Counted
 counted_by (Call named host revision index size) reply = if index =? 0 then masked else answered host (printed_status reply.verdict)
 counted_by Tick reply = ticked
 counted_by (Power named) reply = powered
-counted_by (Health named spare media controller) reply = measured
+counted_by (Health named new) reply = measured
 counted_by Bad reply = bad
 
 -- the cell is there: hosts 1 to 4 and statuses 0 to 11
@@ -52,19 +60,12 @@ abbrev pub HasCell : Entry → Reply → Type 0
 HasCell (Call named host revision index size) reply = (1 ≤ host) × (host ≤ 4) × (printed_status reply.verdict ≤ 11)
 HasCell Tick reply = Unit {0}
 HasCell (Power named) reply = Unit {0}
-HasCell (Health named spare media controller) reply = Unit {0}
+HasCell (Health named new) reply = Unit {0}
 HasCell Bad reply = Unit {0}
 
--- the counts beside the grid: the new ones, where the count that is raised had room
-abbrev pub counted_or_full : (count : ℕ) (new was : Counts) → Counting
-counted_or_full count new was = if largest_count ≤? count then record { counts = was; full = true } else record { counts = new; full = false }
+-- a count with one more, where there is room; and whether there was
+abbrev pub raised_count : (count : ℕ) → ℕ
+raised_count count = if largest_count ≤? count then count else (count + 1)
 
--- and with the tail, if there is one
-abbrev pub with_tail_counted : (short : Bool) → Counting → Counting
-with_tail_counted short c = if c.full || not short then c else counted_or_full c.counts.shorts (raised_short true c.counts) c.counts
-
--- grid, counts and flag are those of a tally
-pub record Tallies (t : Tally) (grid : List (List ℕ)) (counting : Counting) : Type 0 where
-  pub grid_is : grid ≡ t.report.grid
-  pub counts_are : counting.counts ≡ t.report.counts
-  pub full_is : counting.full ≡ t.full
+abbrev pub room_for : (count : ℕ) → Result Unit LogTooMany
+room_for count = if largest_count ≤? count then Err (record {}) else Ok tt

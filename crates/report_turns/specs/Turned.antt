@@ -1,14 +1,15 @@
 -- Document 02, T-01: a turn of the report program: what it keeps, and what is counted of the log that it is in.
 -- Assumes nothing.
 use mathlib.Core.{Path.◌≡◌, Bool.{Bool, true, false, not}, List.{List, [], ◌∷◌}}
-use Rattle.std.specs.Prelude.{ℕ}
+use Rattle.std.specs.Prelude.{ℕ, Result}
+use Rattle.std.specs.Result.{is_err}
 use Rattle.rules.specs.Record.{Whole, whole_of}
 use Rattle.rules.specs.Log.{records_in, short_tail}
 use Rattle.rules.specs.Replay.{replay_start, whole_after}
 use Rattle.rules.specs.Report.{Report, fits, feed, fed_next}
 use Rattle.program_logs.specs.declared.{Turn.Turn, Turn.TheVariants.{Beginning, Part, End, Unreadable, Nothing}}
 use Rattle.replay_step.specs.Parts.{log_of, WholeRecords}
-use Rattle.report_tally.specs.Tally.{Tally, tally_of, tallied_tail}
+use Rattle.report_tally.specs.{Tally.{Tally, page_report, tally_of, tallied_tail}, declared.LogTooMany.LogTooMany}
 use Rattle.report_log.specs.Parts.{tally_after, begun, fed_by}
 use Rattle.report_turns.specs.declared.Reporting.{Reporting}
 
@@ -18,13 +19,8 @@ pub record State : Type 0 where
   pub tally : Tally
   pub whole_now : Whole
 
-abbrev pub state_of : (kept grid : List (List ℕ)) (area : List ℕ) → Reporting → State
-state_of kept grid area r =
-    record {
-      kept = record { grid = kept; counts = r.kept };
-      tally = tally_of grid r.going.counting.counts r.going.counting.full;
-      whole_now = whole_of r.going.cabinet area;
-    }
+abbrev pub state_of : Reporting → State
+state_of r = record { kept = page_report r.kept; tally = tally_of r.going.counting; whole_now = whole_of r.going.cabinet r.area }
 
 -- a log begins with what is kept, "replayed from a fresh module"; each part goes on where the one before it left; at the end the report with the log is kept, or
 -- the one that was, if there was a log too many; and so where the log cannot be read to its end
@@ -47,18 +43,10 @@ refuses Part s = false
 refuses Unreadable s = false
 refuses Nothing s = false
 
--- what a turn leaves
-pub record Leaves (s : State) (refused : Bool) (kept grid : List (List ℕ)) (area : List ℕ) (r : Reporting) : Type 0 where
-  pub state_is : state_of kept grid area r ≡ s
-  pub refused_is : r.refused ≡ refused
-
--- the end of a log leaves what is counted of it
-pub record Ended (short : Bool) (kept grid : List (List ℕ)) (was : Reporting) (kept' : List (List ℕ)) (r : Reporting) : Type 0 where
-  pub kept_is : record { grid = kept'; counts = r.kept }
-      ≡ (fed_by (tallied_tail short (tally_of grid was.going.counting.counts was.going.counting.full)) (record { grid = kept; counts = was.kept })).report
-  pub going_is : r.going ≡ was.going
-  pub refused_is : r.refused
-      ≡ not (fed_by (tallied_tail short (tally_of grid was.going.counting.counts was.going.counting.full)) (record { grid = kept; counts = was.kept })).taken
+-- what a turn leaves, and whether it refuses the log
+pub record Leaves (s : State) (refused : Bool) (r : Reporting) (result : Result Unit LogTooMany) : Type 0 where
+  pub state_is : state_of r ≡ s
+  pub refused_is : is_err result ≡ refused
 
 -- The turns of a log that is read in these parts and a last one; and of one that cannot be read behind these parts.
 abbrev pub parts_turned : State → (parts : List (List ℕ)) → State

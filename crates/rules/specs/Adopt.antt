@@ -6,7 +6,7 @@ use mathlib.Core.{Path.◌≡◌, Logic.◌↔◌, Bool.{Bool, true, false, ◌&
 use Rattle.std.specs.Prelude.{if◌then◌else◌}
 use Rattle.rules.specs.Tests.{◌=?◌}
 use Rattle.rules.specs.With.{◌with_phase◌, ◌with_received◌, ◌with_transfer◌}
-use Rattle.rules.specs.Record.{◌is◌, current, possible_current, fresh, possible, possible_parts, possible_numbers, possible_security, possible_thresholds, possible_cabinet, renewed}
+use Rattle.rules.specs.Record.{current, possible_current, fresh, possible, possible_parts, possible_numbers, possible_security, possible_thresholds, possible_cabinet, renewed}
 use Rattle.rules.specs.declared.{Phase.TheVariants.{Idle, Failed}, Device.Device, Cabinet.Cabinet, Reading.Reading}
 
 -- the contexts given out when the module was alone: its current context was the last one

@@ -14,7 +14,8 @@ use Rattle.rules.specs.History.{history_of, only}
 use Rattle.rules.specs.Transfers.{machine, History}
 use Rattle.rules.specs.Demand1.{Among}
 use Rattle.rules.specs.Demand3.{fresh_with}
-use Rattle.rules.specs.declared.{Refusal.Refusal, Refusal.TheVariants.R, Verdict.TheVariants.Refused}
+use Rattle.rules.specs.declared.{Refusal.Refusal, Refusal.TheVariants.R}
+use Rattle.std.specs.Prelude.{Err}
 
 -- whether an event reaches a module: a call, a power cycle or a reading that names it; a tick, which reaches both
 abbrev pub reaches : (own : ℕ) → Event → Bool
@@ -62,5 +63,5 @@ pub record RequestT09 : Type 0 where
   -- reading's are demand 1's
   pub ticks_judged : (w : Whole) → (tick_result w).reply.verdict ≡ verdict (tick_checks w)
   pub power_judged : (w : Whole) (named : ℕ) → (power_result w named).reply.verdict ≡ verdict (event_checks w named)
-  pub of_ticks : (w : Whole) (refusal : Refusal) → (tick_result w).reply.verdict ≡ Refused refusal → Among (R 2 ∷ R 3 ∷ []) refusal
-  pub of_power : (w : Whole) (named : ℕ) (refusal : Refusal) → (power_result w named).reply.verdict ≡ Refused refusal → Among (R 2 ∷ R 5 ∷ R 3 ∷ []) refusal
+  pub of_ticks : (w : Whole) (refusal : Refusal) → (tick_result w).reply.verdict ≡ Err refusal → Among (R 2 ∷ R 3 ∷ []) refusal
+  pub of_power : (w : Whole) (named : ℕ) (refusal : Refusal) → (power_result w named).reply.verdict ≡ Err refusal → Among (R 2 ∷ R 5 ∷ R 3 ∷ []) refusal

@@ -11,7 +11,9 @@ use Rattle.rules.specs.Security.{SecurityCall, GetSecurityState, SetPassphrase, 
 use Rattle.rules.specs.Cabinet.{Event, call, tick, power, reading, step}
 use Rattle.rules.specs.Transfers.{machine, Kind, Started, Sent, Finished, Ticked, Powered, Other, event_kind}
 use Rattle.rules.specs.Demand3.{staged_with, Sound}
-use Rattle.rules.specs.declared.{Refusal.TheVariants.Status, Verdict.Verdict, Verdict.TheVariants.{Accepted, Refused}, Security.Security, Reading.Reading}
+use Rattle.rules.specs.declared.{Refusal.TheVariants.Status, Security.Security, Reading.Reading}
+use Rattle.rules.specs.Refusals.{Verdict}
+use Rattle.std.specs.Prelude.{Ok, Err}
 
 -- no accepted Send
 abbrev pub NoSend : Kind → Type 0
@@ -31,8 +33,8 @@ abbrev pub last_reading : (own : ℕ) → Whole → Event → Verdict → Readin
 last_reading own w (call host named revision index request answer) verdict = (device_of own w.cabinet).reading
 last_reading own w tick verdict = (device_of own w.cabinet).reading
 last_reading own w (power named) verdict = (device_of own w.cabinet).reading
-last_reading own w (reading named new) Accepted = if named =? own then new else (device_of own w.cabinet).reading
-last_reading own w (reading named new) (Refused refusal) = (device_of own w.cabinet).reading
+last_reading own w (reading named new) (Ok tt) = if named =? own then new else (device_of own w.cabinet).reading
+last_reading own w (reading named new) (Err refusal) = (device_of own w.cabinet).reading
 
 -- Document 02, T-04: "the device record keeps the last one", and "power cycles keep the last one": no call, tick or power cycle changes the reading; T-09: nor does a
 -- reading of the other module.
@@ -43,11 +45,11 @@ LastKept =
 
 -- what a frozen module answers
 abbrev pub while_frozen : SecurityCall → Verdict
-while_frozen GetSecurityState = Accepted
-while_frozen (SetPassphrase given new) = Refused (Status 10 0)
-while_frozen (Disable given) = Refused (Status 10 0)
-while_frozen (Unlock given) = Refused (Status 10 0)
-while_frozen Freeze = Refused (Status 10 0)
+while_frozen GetSecurityState = Ok tt
+while_frozen (SetPassphrase given new) = Err (Status 10 0)
+while_frozen (Disable given) = Err (Status 10 0)
+while_frozen (Unlock given) = Err (Status 10 0)
+while_frozen Freeze = Err (Status 10 0)
 
 -- "For 20 to 23, frozen or attempts at 10 gives 10 first": such a module answers 10 to every call with a passphrase and to Freeze, right or wrong, so it
 -- counts no attempt.

@@ -7,7 +7,9 @@ use Rattle.rules.specs.Record.{Whole, whole_of, device_of, with_device_at, stand
 use Rattle.rules.specs.Refusals.{Check, verdict, R1Check, R4Check, tick_checks, event_checks, status_length, status_answer, answer_after, record_left}
 use Rattle.rules.specs.Table.{row_of, served_check, length_check}
 use Rattle.rules.specs.Module.{Call, call_in, checks, accepted_answer, change, device_ticked, device_powered, device_keeping}
-use Rattle.rules.specs.declared.{Refusal.TheVariants.{R, Status}, Verdict.Verdict, Verdict.TheVariants.{Accepted, Refused}, Reply.Reply, Reading.Reading}
+use Rattle.rules.specs.declared.{Refusal.TheVariants.{R, Status}, Reply.Reply, Reading.Reading}
+use Rattle.rules.specs.Refusals.{Verdict}
+use Rattle.std.specs.Prelude.{Ok, Err}
 
 -- what comes out of an event: the reply, the cabinet after it, and the answer buffer
 pub record Result : Type 0 where
@@ -30,16 +32,16 @@ reply v n = record { verdict = v; length = n }
 
 -- What a verdict on a call comes to, for a function whose answer has n bytes. "R numbers write nothing."
 abbrev pub outcome : Verdict → Whole → (named : ℕ) → Call → (n : ℕ) (answer : List ℕ) → Result
-outcome Accepted w named asked n answer =
+outcome (Ok tt) w named asked n answer =
     record {
-      reply = reply Accepted n;
+      reply = reply (Ok tt) n;
       after = in_place named (change (standing named w) asked) w;
       answer = answer_after (accepted_answer (standing named w) asked) answer;
     }
-outcome (Refused (R number)) w named asked n answer = record { reply = reply (Refused (R number)) 0; after = w; answer = answer }
-outcome (Refused (Status status ext)) w named asked n answer =
+outcome (Err (R number)) w named asked n answer = record { reply = reply (Err (R number)) 0; after = w; answer = answer }
+outcome (Err (Status status ext)) w named asked n answer =
     record {
-      reply = reply (Refused (Status status ext)) (status_length status n);
+      reply = reply (Err (Status status ext)) (status_length status n);
       after = whole_of (record_left status named w.cabinet) w.area;
       answer = answer_after (status_answer status ext n) answer;
     }
@@ -51,8 +53,8 @@ call_result w named revision index request answer =
 
 -- what a verdict on a tick, a power cycle or a reading comes to; no buffer is lent, so that the answer is the empty list
 abbrev pub happened : Verdict → (changed was : Whole) → Result
-happened Accepted changed was = record { reply = reply Accepted 0; after = changed; answer = [] }
-happened (Refused refusal) changed was = record { reply = reply (Refused refusal) 0; after = was; answer = [] }
+happened (Ok tt) changed was = record { reply = reply (Ok tt) 0; after = changed; answer = [] }
+happened (Err refusal) changed was = record { reply = reply (Err refusal) 0; after = was; answer = [] }
 
 -- the cabinet after an accepted tick: "Ticks reach both"
 abbrev pub ticked : Whole → Whole

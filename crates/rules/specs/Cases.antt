@@ -9,12 +9,14 @@ use Rattle.rules.specs.Tests.{◌=?◌}
 use Rattle.rules.specs.Bytes.{le, zeros, same?}
 use Rattle.rules.specs.Numbers.{area_size}
 use Rattle.rules.specs.With.{◌with_transfer◌, ◌with_phase◌, ◌with_current◌, ◌with_received◌}
-use Rattle.rules.specs.Record.{◌is◌, fresh, fresh_cabinet, Whole, whole_of}
+use Rattle.rules.specs.Record.{◌is◌, fresh, Whole, whole_of}
 use Rattle.rules.specs.Refusals.{refused?}
 use Rattle.rules.specs.Health.{new_reading}
 use Rattle.rules.specs.Cabinet.{Result, Event, call, tick, power, reading, step}
 use Rattle.rules.specs.Replay.{replay_start}
-use Rattle.rules.specs.declared.{Phase.TheVariants.{Receiving, Staged, Failed}, Refusal.TheVariants.{R, Status}, Verdict.Verdict, Verdict.TheVariants.{Accepted, Refused}, Reading.Reading, Device.Device}
+use Rattle.rules.specs.declared.{Phase.TheVariants.{Receiving, Staged, Failed}, Refusal.TheVariants.{R, Status}, Reading.Reading, Device.Device}
+use Rattle.rules.specs.Refusals.{Verdict}
+use Rattle.std.specs.Prelude.{Ok, Err}
 
 -- What a case does: it makes a call and expects these answer bytes, lets ticks pass or a module's power cycle, or brings a health reading, which is taken; or an event
 -- gives this R number.
@@ -47,9 +49,9 @@ after_ticks (suc ticks) w = after_ticks ticks (step w tick).after
 
 -- the verdict is this R number
 abbrev by_R : (number : ℕ) → Verdict → Bool
-by_R number Accepted = false
-by_R number (Refused (R given)) = given =? number
-by_R number (Refused (Status status ext)) = false
+by_R number (Ok tt) = false
+by_R number (Err (R given)) = given =? number
+by_R number (Err (Status status ext)) = false
 
 abbrev holds_from : Whole → List Deed → (Whole → Bool) → Bool
 holds_from w [] ends = ends w

@@ -9,7 +9,8 @@ use Rattle.rules.specs.Tests.{◌≤?◌, ◌<?◌, ◌=?◌}
 use Rattle.rules.specs.Bytes.{same?, splice}
 use Rattle.rules.specs.Text.{ascii, decimal, field}
 use Rattle.rules.specs.Log.{record_size, record_at, kind_bytes, host_bytes, revision_bytes, function_bytes, length_bytes, request_bytes}
-use Rattle.rules.specs.declared.{Comparison.Comparison, Comparison.TheVariants.{Compared, Full}}
+use Rattle.rules.specs.declared.{Compared.Compared, ListFull.ListFull}
+use Rattle.std.specs.Prelude.{Result, Ok, Err}
 
 -- "byte by byte up to the shorter log's end, where the rest begins": what of a log is compared with another, and what is not
 abbrev pub compared : (log other : List ℕ) → List ℕ
@@ -67,6 +68,16 @@ leading_to leading number first second zero = leading
 leading_to leading number first second (suc j) =
     leading_on (leading_to leading number first second j) (number + j) (equal_at first second j)
 
+-- what a comparison comes to, the library's `Result`: `Ok` with a report, `Err` where the list is full
+abbrev pub Comparison : Type 0
+Comparison = Result Compared ListFull
+
+abbrev pub report : (leading differing left : ℕ) → Comparison
+report leading differing left = Ok (record { leading = leading; differing = differing; left = left })
+
+abbrev pub list_full : (differing : ℕ) → Comparison
+list_full differing = Err (record { differing = differing })
+
 module _ (first second : List ℕ) where
   -- of the two logs: their places, the leading places that are equal, and the differing places
   abbrev pub places : ℕ
@@ -95,7 +106,7 @@ module _ (first second : List ℕ) where
 
   -- "Refusals: difference list full, exactly if more places differ than it holds, saying how many differ in all"
   abbrev pub comparison : (room : ℕ) → Comparison
-  comparison room = if length differences ≤? room then Compared leading (length differences) left else Full (length differences)
+  comparison room = if length differences ≤? room then report leading (length differences) left else list_full (length differences)
 
 -- An entry of the difference list is one number: the place, times 64, and a bit for each field that differs: kind 1, host 2, revision 4, function 8, length 16,
 -- request 32.
@@ -117,8 +128,8 @@ list_after first second list =
 
 -- what is handed back with a report: the rest, or where the list is full "the empty end of the first"
 abbrev pub rest_after : Comparison → (first second : List ℕ) → List ℕ
-rest_after (Compared l d n) first second = rest first second
-rest_after (Full d) first second = drop (length first) first
+rest_after (Ok told) first second = rest first second
+rest_after (Err told) first second = drop (length first) first
 
 -- The report as text, with a list that holds 1,000 places: the words of docs/DECISIONS.md (B27, the report as text).
 abbrev pub list_room : ℕ
@@ -140,8 +151,8 @@ difference_lines [] = []
 difference_lines (d ∷ ds) = difference_line d ++ difference_lines ds
 
 abbrev pub comparison_text : Comparison → List Difference → List ℕ
-comparison_text (Compared l d n) ds = ascii "leading " ++ field l "\n" ++ difference_lines ds ++ ascii "left " ++ field n "\n"
-comparison_text (Full d) ds = ascii "full " ++ field d "\n"
+comparison_text (Ok told) ds = ascii "leading " ++ field told.leading "\n" ++ difference_lines ds ++ ascii "left " ++ field told.left "\n"
+comparison_text (Err told) ds = ascii "full " ++ field told.differing "\n"
 
 unfoldable pub compare_text : (first second : List ℕ) → List ℕ
 compare_text first second = comparison_text (comparison first second list_room) (differences first second)
@@ -170,8 +181,8 @@ pub record Laid (first second : List ℕ) : Type 0 where
   pub means_equal : differences first second ≡ [] → left first second ≡ 0 → first ≡ second
   pub other_way_round : first ≡ second → (differences first second ≡ []) × (left first second ≡ 0)
   -- the same of the report itself, whatever the list holds: of equal logs every place leads
-  pub report_means_equal : (room lead : ℕ) → comparison first second room ≡ Compared lead 0 0 → first ≡ second
-  pub report_of_equal : (room : ℕ) → first ≡ second → comparison first second room ≡ Compared (places first second) 0 0
+  pub report_means_equal : (room lead : ℕ) → comparison first second room ≡ report lead 0 0 → first ≡ second
+  pub report_of_equal : (room : ℕ) → first ≡ second → comparison first second room ≡ report (places first second) 0 0
   -- a place is listed exactly if it is one that is compared and differs; in order, each once, with its fields
   pub listed : (j : ℕ) → listed? j (differences first second) ≡ (j <? places first second && not (place_equal first second j))
   pub rising : Rising 0 (differences first second)
@@ -187,8 +198,8 @@ pub record Laid (first second : List ℕ) : Type 0 where
   pub second_longer : length first < length second → (rest first second ≡ drop (length first) second) × (differences first second ≡ [] → first ++ rest first second ≡ second)
   -- "difference list full, exactly if more places differ than it holds, saying how many differ in all"
   pub holds : (room : ℕ) → length (differences first second) ≤ room
-      → comparison first second room ≡ Compared (leading first second) (length (differences first second)) (left first second)
-  pub full : (room : ℕ) → room < length (differences first second) → comparison first second room ≡ Full (length (differences first second))
+      → comparison first second room ≡ report (leading first second) (length (differences first second)) (left first second)
+  pub full : (room : ℕ) → room < length (differences first second) → comparison first second room ≡ list_full (length (differences first second))
   -- the differing places are the list's front, and what is past them stays; "the list stays as it came" where it is full
   pub list_written : (list : List ℕ) → length (differences first second) ≤ length list
       → list_after first second list ≡ entries (differences first second) ++ drop (length (differences first second)) list

@@ -14,8 +14,9 @@ use Rattle.rules.specs.Record.{fresh_cabinet, possible_cabinet, Whole, device_of
 use Rattle.rules.specs.Refusals.{verdict, status_bytes, answer_after, one_attempt_more}
 use Rattle.rules.specs.Table.{row_of}
 use Rattle.rules.specs.Cabinet.{Result, call_checks, call_result, reading_checks, kept, reading_result, Event, call, tick, power, reading, step}
-use Rattle.rules.specs.declared.{Function.TheVariants.Mask, Row.Row, Refusal.Refusal, Refusal.TheVariants.{R, Status}, Verdict.TheVariants.{Accepted, Refused}}
+use Rattle.rules.specs.declared.{Function.TheVariants.Mask, Row.Row, Refusal.Refusal, Refusal.TheVariants.{R, Status}}
 use Rattle.rules.specs.declared.Reading.{Reading}
+use Rattle.std.specs.Prelude.{Ok, Err}
 
 -- the refusal numbers of document 01, in its table's order, and R5 of document 02, T-09: these are given, each by some call, and no other is by a call: R4 is a
 -- reading's. When each is given, the checks say.
@@ -53,7 +54,7 @@ pub record GivenBySome (refusal : Refusal) : Type 0 where
   pub index : ℕ
   pub request : List ℕ
   pub answer : List ℕ
-  pub refused : (call_result found named revision index request answer).reply.verdict ≡ Refused refusal
+  pub refused : (call_result found named revision index request answer).reply.verdict ≡ Err refusal
 
 -- the column "Answer bytes" of the refusal table, for a function whose answer has n bytes: said again, number by number, to hold `status_length` to it
 abbrev pub column : (status n : ℕ) → ℕ
@@ -86,10 +87,10 @@ pub record Answered (row : Row) (answer : List ℕ) (result : Result) : Type 0 w
 -- Demand 1 of a call
 pub record OfCall (w : Whole) (named revision index : ℕ) (request answer : List ℕ) : Type 0 where
   pub judged : (call_result w named revision index request answer).reply.verdict ≡ verdict (call_checks w named revision index request answer)
-  pub numbers : (refusal : Refusal) → (call_result w named revision index request answer).reply.verdict ≡ Refused refusal → Numbered refusal
-  pub leaves : (refusal : Refusal) → (call_result w named revision index request answer).reply.verdict ≡ Refused refusal
+  pub numbers : (refusal : Refusal) → (call_result w named revision index request answer).reply.verdict ≡ Err refusal → Numbered refusal
+  pub leaves : (refusal : Refusal) → (call_result w named revision index request answer).reply.verdict ≡ Err refusal
       → RefusedBy refusal w named (row_of index).answer answer (call_result w named revision index request answer)
-  pub answers : (call_result w named revision index request answer).reply.verdict ≡ Accepted
+  pub answers : (call_result w named revision index request answer).reply.verdict ≡ Ok tt
       → Answered (row_of index) answer (call_result w named revision index request answer)
 
 -- the answer buffer is too short for a call
@@ -122,15 +123,15 @@ pub record GivenByReading (refusal : Refusal) : Type 0 where
   pub found : Whole
   pub named : ℕ
   pub new : Reading
-  pub refused : (reading_result found named new).reply.verdict ≡ Refused refusal
+  pub refused : (reading_result found named new).reply.verdict ≡ Err refusal
 
 -- Demand 1 of a reading: its checks decide; refused, it changes nothing; accepted, it is kept, the trips byte is renewed, and everything else stays. It writes no
 -- answer.
 pub record OfReading (w : Whole) (named : ℕ) (new : Reading) : Type 0 where
   pub judged : (reading_result w named new).reply.verdict ≡ verdict (reading_checks w named new)
-  pub numbers : (refusal : Refusal) → (reading_result w named new).reply.verdict ≡ Refused refusal → Among reading_numbers refusal
-  pub leaves : (refusal : Refusal) → (reading_result w named new).reply.verdict ≡ Refused refusal → (reading_result w named new).after ≡ w
-  pub keeps : (reading_result w named new).reply.verdict ≡ Accepted → (reading_result w named new).after ≡ kept w named new
+  pub numbers : (refusal : Refusal) → (reading_result w named new).reply.verdict ≡ Err refusal → Among reading_numbers refusal
+  pub leaves : (refusal : Refusal) → (reading_result w named new).reply.verdict ≡ Err refusal → (reading_result w named new).after ≡ w
+  pub keeps : (reading_result w named new).reply.verdict ≡ Ok tt → (reading_result w named new).after ≡ kept w named new
   pub silent : ((reading_result w named new).reply.length ≡ 0) × ((reading_result w named new).answer ≡ [])
 
 -- which R numbers an event may still give on a possible record: R1, for an answer buffer that is too short; R5, for a module over 1; R4, for a reading whose spare is
@@ -144,7 +145,7 @@ MayGive number event =
 pub record OfEvent (w : Whole) (event : Event) : Type 0 where
   pub stays_possible : possible_cabinet (step w event).after.cabinet ≡ true
   pub keeps_size : length (step w event).after.area ≡ area_size
-  pub no_other_R : (number : ℕ) → (step w event).reply.verdict ≡ Refused (R number) → MayGive number event
+  pub no_other_R : (number : ℕ) → (step w event).reply.verdict ≡ Err (R number) → MayGive number event
 
 -- Demand 1: any call with any bytes and any device record, and any reading; every number of the table is given by some call, and every number of a reading by some
 -- reading; and a fresh cabinet's record is possible, so that what is said of events holds from there on.

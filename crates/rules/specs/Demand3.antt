@@ -15,8 +15,10 @@ use Rattle.rules.specs.Transfers.{machine, Exchange, History, Started, Finished,
 use Rattle.rules.specs.Hosts.{Honest}
 use Rattle.rules.specs.Sends.{own_sends, pieces, SentBy, FinishedIn, ticks_in, power_cycles}
 use Rattle.rules.specs.Moves.{moved, ByMoves, rearranged, Unbroken}
-use Rattle.rules.specs.declared.{Refusal.TheVariants.{R, Status}, Verdict.Verdict, Verdict.TheVariants.{Accepted, Refused}, Image.TheVariants.Good}
+use Rattle.rules.specs.declared.{Refusal.TheVariants.{R, Status}}
 use Rattle.rules.specs.declared.Phase.TheVariants.{Staged}
+use Rattle.rules.specs.Refusals.{Verdict}
+use Rattle.std.specs.Prelude.{Ok, Err}
 
 -- "Begin with a fresh module"; document 02, T-09: "both modules begin fresh". The area is any of the right size.
 abbrev pub fresh_with : (area : List ℕ) → Whole
@@ -25,9 +27,9 @@ fresh_with area = whole_of fresh_cabinet area
 -- "Strike out the refused calls except wrong passphrases." R numbers are refusals; a reading or a power cycle that one refuses is struck
 -- out too, though it is no call (docs/DECISIONS.md, B69). A wrong passphrase is status 11.
 abbrev pub remains : Verdict → Bool
-remains Accepted = true
-remains (Refused (R number)) = false
-remains (Refused (Status status ext)) = status =? 11
+remains (Ok tt) = true
+remains (Err (R number)) = false
+remains (Err (Status status ext)) = status =? 11
 
 -- what remains
 abbrev pub struck : History → History
@@ -92,7 +94,7 @@ pub record Due (named : ℕ) (h : History) (version : ℕ) : Type 0 where
   pub transfer : FinishedIn h
   pub of_module : transfer.named ≡ named
   pub no_abort : transfer.flag ≡ 0
-  pub good : image_of (pieces (own_sends transfer.context transfer.between)) ≡ Good version
+  pub good : image_of (pieces (own_sends transfer.context transfer.between)) ≡ Ok version
   pub seven_ticks : ticks_in transfer.since ≡ 7
   pub no_power_cycle : power_cycles named transfer.since ≡ 0
 

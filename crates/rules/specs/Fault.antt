@@ -7,7 +7,8 @@ use Rattle.std.specs.Prelude.{take, drop}
 use Rattle.std.specs.Prelude.{if◌then◌else◌}
 use Rattle.rules.specs.Tests.{◌=?◌}
 use Rattle.rules.specs.Image.{image_record_size, number_field, count_field, version_field, sum_field, number_in, records_of, record_sum, good_record, good_size, version_of, good_image}
-use Rattle.rules.specs.declared.{Reason.Reason, Reason.TheVariants.{Size, Number, Count, Version, Sum}, Image.Image, Image.TheVariants.{Good, Bad}}
+use Rattle.rules.specs.declared.{Reason.Reason, Reason.TheVariants.{Size, Number, Count, Version, Sum}, FirstFault.FirstFault}
+use Rattle.std.specs.Prelude.{Result, Ok, Err}
 
 -- "1 to 5", in the order in which the request names them (B9)
 abbrev pub reason_number : Reason → ℕ
@@ -66,10 +67,17 @@ first_fault bytes =
     if not (good_size bytes) then Size of_record 0
     else records_fault (records_of bytes) 0 (records_of bytes) (version_of bytes) bytes
 
+-- what bytes are, the library's `Result`: `Ok version` a good image with this version, `Err fault` a bad one with this first fault
+abbrev pub Image : Type 0
+Image = Result ℕ FirstFault
+
+abbrev pub bad_image : (reason : Reason) (i : ℕ) → Image
+bad_image reason i = Err (record { reason = reason; number = i })
+
 -- what bytes with this first fault are, and with this version in their first record
 abbrev pub judged : Fault → (version : ℕ) → Image
-judged none version = Good version
-judged (reason of_record i) version = Bad reason i
+judged none version = Ok version
+judged (reason of_record i) version = bad_image reason i
 
 -- what the received bytes are: a good image with its version, or a bad one with its first fault
 unfoldable pub image_of : List ℕ → Image
@@ -108,5 +116,5 @@ pub record First (reason : Reason) (i : ℕ) (bytes : List ℕ) : Type 0 where
 pub record RequestT03 : Type 0 where
   pub none_if_good : (bytes : List ℕ) → (first_fault bytes ≡ none) ↔ (good_image bytes ≡ true)
   pub the_first : (bytes : List ℕ) (reason : Reason) (i : ℕ) → (first_fault bytes ≡ (reason of_record i)) ↔ First reason i bytes
-  pub good : (bytes : List ℕ) (version : ℕ) → (image_of bytes ≡ Good version) ↔ ((good_image bytes ≡ true) × (version ≡ version_of bytes))
-  pub bad : (bytes : List ℕ) (reason : Reason) (i : ℕ) → (image_of bytes ≡ Bad reason i) ↔ First reason i bytes
+  pub good : (bytes : List ℕ) (version : ℕ) → (image_of bytes ≡ Ok version) ↔ ((good_image bytes ≡ true) × (version ≡ version_of bytes))
+  pub bad : (bytes : List ℕ) (reason : Reason) (i : ℕ) → (image_of bytes ≡ bad_image reason i) ↔ First reason i bytes

@@ -7,6 +7,7 @@ use Rattle.std.specs.Prelude.{if◌then◌else◌}
 use Rattle.rules.specs.Tests.{◌≤?◌, ◌=?◌}
 use Rattle.rules.specs.Bytes.{of_le, number_at, zeros?}
 use Rattle.rules.specs.declared.{Entry.Entry, Entry.TheVariants.{Call, Tick, Power, Health, Bad}}
+use Rattle.rules.specs.Health.{new_reading}
 
 -- "544-byte records"
 abbrev pub record_size : ℕ
@@ -94,7 +95,7 @@ entry_of bytes =
     else if kind_in bytes =? 1 && good_call bytes then Call (named_in bytes) (host_in bytes) (revision_in bytes) (function_in bytes) (length_in bytes)
     else if kind_in bytes =? 2 && bare bytes then Tick
     else if kind_in bytes =? 3 && good_power bytes then Power (named_in bytes)
-    else if kind_in bytes =? 4 && good_reading bytes then Health (named_in bytes) (spare_in bytes) (media_in bytes) (controller_in bytes)
+    else if kind_in bytes =? 4 && good_reading bytes then Health (named_in bytes) (new_reading (spare_in bytes) (media_in bytes) (controller_in bytes))
     else Bad
 
 -- the whole records of a log, and record j of them

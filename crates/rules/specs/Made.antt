@@ -9,10 +9,10 @@ use Rattle.std.specs.Prelude.{if◌then◌else◌}
 use Rattle.rules.specs.Tests.{◌<?◌, ◌=?◌}
 use Rattle.rules.specs.Bytes.{le, zeros, splice, AreBytes}
 use Rattle.rules.specs.Image.{image_record_size, most_records, Field, number_field, count_field, version_field, payload_field, sum_field}
-use Rattle.rules.specs.{Image.{bytes_in, records_of, record_sum}, Fault.image_of}
-use Rattle.rules.specs.declared.{Image.Image, Image.TheVariants.{Good, Bad}}
-use Rattle.rules.specs.declared.{Making.Making, Making.TheVariants.{Made, VersionZero, PayloadOver128Records, OutputTooShort}}
-use Rattle.rules.specs.declared.{ReadingBack.ReadingBack, ReadingBack.TheVariants.{Read, NotGoodImage, OutputTooShort as ReadTooShort}}
+use Rattle.rules.specs.{Image.{bytes_in, records_of, record_sum}, Fault.{Image, image_of}}
+use Rattle.std.specs.Prelude.{Result, Ok, Err}
+use Rattle.rules.specs.declared.{NotMade.NotMade, NotMade.TheVariants.{VersionZero, PayloadOver128Records, OutputTooShort}}
+use Rattle.rules.specs.declared.{NotRead.NotRead, NotRead.TheVariants.{NotGoodImage, OutputTooShort as ReadTooShort}}
 
 -- "112-byte parts": as many bytes as a record has for its payload
 abbrev pub part_size : ℕ
@@ -65,38 +65,42 @@ payload_of image = carried (records_of image) image
 abbrev pub with_padding : (payload : List ℕ) → List ℕ
 with_padding payload = payload ++ zeros (parts_of payload * part_size - length payload)
 
+-- what making an image comes to, and reading one back: how many bytes were written, or why none was
+abbrev pub Making : Type 0
+Making = Result ℕ NotMade
+
+abbrev pub ReadingBack : Type 0
+ReadingBack = Result ℕ NotRead
+
 -- "Refusals in order: for writing, version 0, payload over 128 records, output too short"
 unfoldable pub making_of : (version : ℕ) (payload output : List ℕ) → Making
 making_of version payload output =
-    if version =? 0 then VersionZero
-    else if most_records <? parts_of payload then PayloadOver128Records
-    else if length output <? parts_of payload * image_record_size then OutputTooShort
-    else Made (parts_of payload * image_record_size)
+    if version =? 0 then Err VersionZero
+    else if most_records <? parts_of payload then Err PayloadOver128Records
+    else if length output <? parts_of payload * image_record_size then Err OutputTooShort
+    else Ok (parts_of payload * image_record_size)
 
 -- "Output bytes past what is written stay.", and of a refusal "nothing is written": the output afterwards
 abbrev pub output_made : Making → (image output : List ℕ) → List ℕ
-output_made (Made length) image output = splice 0 image output
-output_made VersionZero image output = output
-output_made PayloadOver128Records image output = output
-output_made OutputTooShort image output = output
+output_made (Ok length) image output = splice 0 image output
+output_made (Err reason) image output = output
 
 -- "for reading back, not a good image, output too short"
 abbrev pub reading_if : Image → (image output : List ℕ) → ReadingBack
-reading_if (Good version) image output = if length output <? records_of image * part_size then ReadTooShort else Read (records_of image * part_size)
-reading_if (Bad reason number) image output = NotGoodImage
+reading_if (Ok version) image output = if length output <? records_of image * part_size then Err ReadTooShort else Ok (records_of image * part_size)
+reading_if (Err fault) image output = Err NotGoodImage
 
 unfoldable pub reading_of : (image output : List ℕ) → ReadingBack
 reading_of image output = reading_if (image_of image) image output
 
 -- the output after reading back, likewise
 abbrev pub output_read : ReadingBack → (payload output : List ℕ) → List ℕ
-output_read (Read length) payload output = splice 0 payload output
-output_read NotGoodImage payload output = output
-output_read ReadTooShort payload output = output
+output_read (Ok length) payload output = splice 0 payload output
+output_read (Err reason) payload output = output
 
 -- "What it writes is a good image, and reading the payload back gives the payload with its padding."
 pub record MadeWell (payload : List ℕ) (version : ℕ) : Type 0 where
-  pub good_image_law : image_of (made_image payload version) ≡ Good version
+  pub good_image_law : image_of (made_image payload version) ≡ Ok version
   pub reads_back : payload_of (made_image payload version) ≡ with_padding payload
   pub its_bytes : AreBytes payload → AreBytes (made_image payload version)
 
@@ -118,8 +122,8 @@ pub record RequestT02 : Type 0 where
   pub parts : (payload : List ℕ) → PartsOf payload (parts_of payload)
   pub over_128_records : (payload : List ℕ) → (most_records <? parts_of payload) ≡ (14336 <? length payload)
   pub made_well : (payload : List ℕ) (version : ℕ) → length payload ≤ 14336 → 1 ≤ version → version ≤ 18446744073709551615 → MadeWell payload version
-  pub made_again : (image : List ℕ) (version : ℕ) → AreBytes image → image_of image ≡ Good version → made_image (payload_of image) version ≡ image
+  pub made_again : (image : List ℕ) (version : ℕ) → AreBytes image → image_of image ≡ Ok version → made_image (payload_of image) version ≡ image
   pub made_size : (payload : List ℕ) (version : ℕ) → length (made_image payload version) ≡ parts_of payload * image_record_size
   pub read_size : (image : List ℕ) → length (payload_of image) ≡ records_of image * part_size
-  pub made_told : (version : ℕ) (payload output : List ℕ) (told : ℕ) → making_of version payload output ≡ Made told → Told told (made_image payload version) output
-  pub read_told : (image output : List ℕ) (told : ℕ) → reading_of image output ≡ Read told → Told told (payload_of image) output
+  pub made_told : (version : ℕ) (payload output : List ℕ) (told : ℕ) → making_of version payload output ≡ Ok told → Told told (made_image payload version) output
+  pub read_told : (image output : List ℕ) (told : ℕ) → reading_of image output ≡ Ok told → Told told (payload_of image) output

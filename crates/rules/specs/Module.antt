@@ -2,7 +2,7 @@
 -- reading change. The cabinet (Cabinet.antt) puts R numbers and the table's checks before them, and the module back in its place. Nothing here names a module: both
 -- are as these rules say, given the shared number of contexts and whether the area is taken.
 -- Assumes nothing.
-use Rattle.std.specs.Prelude.{ℕ, List, [], ◌∷◌, ◌++◌}
+use Rattle.std.specs.Prelude.{ℕ, List, [], ◌++◌}
 use Rattle.rules.specs.Bytes.{le}
 use Rattle.rules.specs.With.{◌with_transfer◌, ◌with_thresholds◌, ◌with_security◌, ◌with_reading◌, ◌with_trips◌}
 use Rattle.rules.specs.Record.{Module, ◌with_device◌, ◌with_area◌, ◌with_given◌, renewed}

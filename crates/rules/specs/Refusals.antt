@@ -2,24 +2,28 @@
 -- Assumes nothing.
 use Rattle.std.specs.Prelude.{ℕ, ◌+◌, ◌-◌}
 use mathlib.Core.{Bool.{Bool, true, false, not}, List.{List, [], ◌∷◌, ◌++◌}}
-use Rattle.std.specs.Prelude.{length}
+use Rattle.std.specs.Prelude.{length, Result, Ok, Err}
 use Rattle.std.specs.Prelude.{if◌then◌else◌}
 use Rattle.rules.specs.Tests.{◌=?◌, ◌<?◌}
 use Rattle.rules.specs.Bytes.{le, zeros, splice}
 use Rattle.rules.specs.Numbers.{area_size, answer_room}
 use Rattle.rules.specs.With.{◌with_attempts◌, ◌with_security◌}
 use Rattle.rules.specs.Record.{possible_cabinet, Whole, device_of, with_device_at}
-use Rattle.rules.specs.declared.{Refusal.Refusal, Refusal.TheVariants.R, Verdict.Verdict, Verdict.TheVariants.{Accepted, Refused}, Device.Device, Cabinet.Cabinet, Reading.Reading}
+use Rattle.rules.specs.declared.{Refusal.Refusal, Refusal.TheVariants.R, Device.Device, Cabinet.Cabinet, Reading.Reading}
 
 -- a check: where the test is true, this refusal is given
 infix 20 ◌gives◌
 pub data Check : Type 0 where
   ◌gives◌ : (test : Bool) (refusal : Refusal) → Check
 
+-- what comes of an event's checks, the library's `Result`: `Ok tt` where it is accepted, `Err refusal` where it is refused
+abbrev pub Verdict : Type 0
+Verdict = Result Unit Refusal
+
 -- the first check whose test is true decides; where none is, the event is accepted
 unfoldable pub verdict : List Check → Verdict
-verdict [] = Accepted
-verdict ((test gives refusal) ∷ checks) = if test then Refused refusal else verdict checks
+verdict [] = Ok tt
+verdict ((test gives refusal) ∷ checks) = if test then Err refusal else verdict checks
 
 -- "R1 | answer buffer shorter than 64"; document 02, T-04: "R1 now reads 132"
 abbrev pub R1Check : List ℕ → Check
@@ -51,8 +55,8 @@ event_checks w named = R2Check w.area ∷ R5Check named ∷ R3Check w.cabinet �
 
 -- "A call is refused if it gives an R number or a nonzero status; every other call is accepted, function 0 among them."
 abbrev pub refused? : Verdict → Bool
-refused? Accepted = false
-refused? (Refused refusal) = true
+refused? (Ok tt) = false
+refused? (Err refusal) = true
 
 -- "Every other answer begins with a 2-byte status and a 2-byte extended number (0 unless status is 7), but for function 0."
 abbrev pub status_bytes : (status ext : ℕ) → List ℕ

@@ -4,18 +4,18 @@
 use Rattle.std.specs.Prelude.{ℕ, zero, suc, ◌+◌}
 use Prim.Native.String.{String}
 use mathlib.Core.{Bool.Bool, List.{List, [], ◌++◌}}
-use Rattle.std.specs.Prelude.{length}
 use Rattle.std.specs.Prelude.{if◌then◌else◌}
 use Rattle.rules.specs.Tests.{◌=?◌}
 use Rattle.rules.specs.Bytes.{zeros}
 use Rattle.rules.specs.Text.{ascii, decimal, field}
 use Rattle.rules.specs.Numbers.{area_size, answer_room}
 use Rattle.rules.specs.Record.{◌is◌, fresh_cabinet, Whole, whole_of}
-use Rattle.rules.specs.Health.{new_reading}
 use Rattle.rules.specs.Cabinet.{Result, call_result, tick_result, power_result, reading_result}
 use Rattle.rules.specs.Log.{entry_of, request_in, records_in, record_at, short_tail}
 use Rattle.rules.specs.declared.{Phase.Phase, Phase.TheVariants.{Idle, Receiving, Verifying, Staged, Failed}, Transfer.Transfer, Device.Device, Cabinet.Cabinet, Refusal.TheVariants.{R, Status}}
-use Rattle.rules.specs.declared.{Verdict.Verdict, Verdict.TheVariants.{Accepted, Refused}, Reply.Reply, Entry.Entry, Entry.TheVariants.{Call, Tick, Power, Health, Bad}}
+use Rattle.rules.specs.declared.{Reply.Reply, Entry.Entry, Entry.TheVariants.{Call, Tick, Power, Health, Bad}}
+use Rattle.rules.specs.Refusals.{Verdict}
+use Rattle.std.specs.Prelude.{Ok, Err}
 
 -- "Replay starts from a fresh module and an area of zeros": from two (document 02, T-09)
 abbrev pub replay_start : Whole
@@ -30,19 +30,19 @@ abbrev pub played : Whole → Entry → (request : List ℕ) → Whole
 played w (Call named host revision index size) request = (replay_call w named revision index request).after
 played w Tick request = (tick_result w).after
 played w (Power named) request = (power_result w named).after
-played w (Health named spare media controller) request = (reading_result w named (new_reading spare media controller)).after
+played w (Health named new) request = (reading_result w named new).after
 played w Bad request = w
 
 -- The two numbers of a call's line. A replay never gives an R number (A33), so that the two lines with R are never used.
 abbrev pub printed_status : Verdict → ℕ
-printed_status Accepted = 0
-printed_status (Refused (R number)) = number
-printed_status (Refused (Status status ext)) = status
+printed_status (Ok tt) = 0
+printed_status (Err (R number)) = number
+printed_status (Err (Status status ext)) = status
 
 abbrev pub printed_ext : Verdict → ℕ
-printed_ext Accepted = 0
-printed_ext (Refused (R number)) = 0
-printed_ext (Refused (Status status ext)) = ext
+printed_ext (Ok tt) = 0
+printed_ext (Err (R number)) = 0
+printed_ext (Err (Status status ext)) = ext
 
 -- a call's line: status, extended number, and the answer's length; "function 0 prints `call - - 4`"
 abbrev pub call_line : (number index : ℕ) → Reply → List ℕ
@@ -55,7 +55,7 @@ abbrev pub entry_line : (number : ℕ) → Whole → Entry → (request : List �
 entry_line number w (Call named host revision index size) request = call_line number index (replay_call w named revision index request).reply
 entry_line number w Tick request = field number " tick\n"
 entry_line number w (Power named) request = field number " power\n"
-entry_line number w (Health named spare media controller) request = field number " health\n"
+entry_line number w (Health named new) request = field number " health\n"
 entry_line number w Bad request = field number " bad\n"
 
 abbrev pub record_played : Whole → (bytes : List ℕ) → Whole

@@ -35,7 +35,7 @@ counted_as w (Call named host revision index size) request =
     if index =? 0 then masked else answered host (printed_status (replay_call w named revision index request).reply.verdict)
 counted_as w Tick request = ticked
 counted_as w (Power named) request = powered
-counted_as w (Health named spare media controller) request = measured
+counted_as w (Health named new) request = measured
 counted_as w Bad request = bad
 
 abbrev pub record_counted : Whole → (bytes : List ℕ) → Counted
@@ -175,35 +175,35 @@ abbrev pub if_call : Entry → ℕ
 if_call (Call named host revision index size) = 1
 if_call Tick = 0
 if_call (Power named) = 0
-if_call (Health named spare media controller) = 0
+if_call (Health named new) = 0
 if_call Bad = 0
 
 abbrev pub if_tick : Entry → ℕ
 if_tick (Call named host revision index size) = 0
 if_tick Tick = 1
 if_tick (Power named) = 0
-if_tick (Health named spare media controller) = 0
+if_tick (Health named new) = 0
 if_tick Bad = 0
 
 abbrev pub if_power : Entry → ℕ
 if_power (Call named host revision index size) = 0
 if_power Tick = 0
 if_power (Power named) = 1
-if_power (Health named spare media controller) = 0
+if_power (Health named new) = 0
 if_power Bad = 0
 
 abbrev pub if_reading : Entry → ℕ
 if_reading (Call named host revision index size) = 0
 if_reading Tick = 0
 if_reading (Power named) = 0
-if_reading (Health named spare media controller) = 1
+if_reading (Health named new) = 1
 if_reading Bad = 0
 
 abbrev pub if_bad : Entry → ℕ
 if_bad (Call named host revision index size) = 0
 if_bad Tick = 0
 if_bad (Power named) = 0
-if_bad (Health named spare media controller) = 0
+if_bad (Health named new) = 0
 if_bad Bad = 1
 
 abbrev pub if_short : (log : List ℕ) → ℕ

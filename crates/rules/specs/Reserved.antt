@@ -9,13 +9,14 @@ use Rattle.rules.specs.Record.{◌is◌, live}
 use Rattle.rules.specs.Refusals.{◌gives◌, verdict}
 use Rattle.rules.specs.Thresholds.{SetThreshold, threshold_checks, threshold_change}
 use Rattle.rules.specs.Transfer.{finish_checks}
-use Rattle.rules.specs.declared.{Refusal.TheVariants.Status, Verdict.TheVariants.{Accepted, Refused}, Phase.TheVariants.Receiving, Transfer.Transfer, Thresholds.Thresholds}
+use Rattle.rules.specs.declared.{Refusal.TheVariants.Status, Phase.TheVariants.Receiving, Transfer.Transfer, Thresholds.Thresholds}
+use Rattle.std.specs.Prelude.{Ok, Err}
 
 -- Of a Finish, in every phase and with every flag and context; and of a Set Threshold, whatever else it carries:
 pub record RequestT05 : Type 0 where
   -- "A Finish with a nonzero reserved byte .. is refused. Refusals: status 3";
   pub finish_reserved : (t : Transfer) (flag : ℕ) (reserved : List ℕ) (context : ℕ) → zeros? reserved ≡ false
-      → verdict (finish_checks t flag reserved context) ≡ Refused (Status 3 0)
+      → verdict (finish_checks t flag reserved context) ≡ Err (Status 3 0)
   -- with zeros there it is judged as document 01 says: flag, context, phase
   pub finish_zeros : (t : Transfer) (flag : ℕ) (reserved : List ℕ) (context : ℕ) → zeros? reserved ≡ true
       → verdict (finish_checks t flag reserved context)
@@ -23,10 +24,10 @@ pub record RequestT05 : Type 0 where
   -- "or Set Threshold with any of enable bits 3 to 15, is refused. Refusals: status 3"; bits 0 to 2 make 7 at most, and any bit from 3 on makes more
   pub any_bit : (k enable : ℕ) → 3 ≤ k → on k enable ≡ true → 7 < enable
   pub set_reserved : (enable spare media controller : ℕ) → 7 < enable
-      → verdict (threshold_checks (SetThreshold enable spare media controller)) ≡ Refused (Status 3 0)
+      → verdict (threshold_checks (SetThreshold enable spare media controller)) ≡ Err (Status 3 0)
   -- with none of them it is judged as document 01 says: by its spare
   pub set_zeros : (enable spare media controller : ℕ) → enable ≤ 7
       → verdict (threshold_checks (SetThreshold enable spare media controller)) ≡ verdict ((100 <? spare gives Status 3 0) ∷ [])
   -- document 01's "with enable bits 3 to 15 cleared" has nothing left to clear: an accepted Set stores its enable bits as they came, with the rest
-  pub nothing_cleared : (h : Thresholds) (enable spare media controller : ℕ) → verdict (threshold_checks (SetThreshold enable spare media controller)) ≡ Accepted
+  pub nothing_cleared : (h : Thresholds) (enable spare media controller : ℕ) → verdict (threshold_checks (SetThreshold enable spare media controller)) ≡ Ok tt
       → threshold_change h (SetThreshold enable spare media controller) ≡ record { enable = enable; spare = spare; media = media; controller = controller }

@@ -1,6 +1,6 @@
 -- Vocabulary: tests that come out true or false, as the page's sentences use them. The choice by a test, `if t then a else b`, is the library's.
 -- Assumes nothing.
-use Rattle.std.specs.Prelude.{ℕ, Bool, true, false, not, ◌||◌, eqb, leb, ltb}
+use Rattle.std.specs.Prelude.{ℕ, Bool, not, ◌||◌, eqb, leb, ltb}
 
 infix 40 ◌≤?◌ ◌<?◌ ◌=?◌
 abbrev pub ◌≤?◌ : ℕ → ℕ → Bool

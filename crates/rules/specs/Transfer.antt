@@ -10,8 +10,9 @@ use Rattle.rules.specs.Numbers.{area_size, longest_piece, verification, tick_mic
 use Rattle.rules.specs.With.{◌with_phase◌, ◌with_current◌, ◌with_received◌, ◌with_ticks◌, ◌with_running◌, ◌with_staged◌, ◌with_reason◌, ◌with_faulty◌}
 use Rattle.rules.specs.Record.{◌is◌, current, live}
 use Rattle.rules.specs.Refusals.{Check, ◌gives◌}
-use Rattle.rules.specs.Fault.{reason_number, image_of}
-use Rattle.rules.specs.declared.{Refusal.TheVariants.Status, Image.Image, Image.TheVariants.{Good, Bad}}
+use Rattle.rules.specs.Fault.{Image, reason_number, image_of}
+use Rattle.rules.specs.declared.{Refusal.TheVariants.Status}
+use Rattle.std.specs.Prelude.{Ok, Err}
 use Rattle.rules.specs.declared.{Phase.TheVariants.{Idle, Receiving, Verifying, Staged, Failed}, Transfer.Transfer}
 
 pub data TransferCall : Type 0 where
@@ -162,8 +163,8 @@ received_bytes t area = take t.received area
 -- "With 1 [tick left]: ticks left 0, and Staged with the image's version if the received bytes are a good image, else Failed."
 -- Document 02, T-03: "The tick keeps reason and record number in Failed".
 abbrev pub after_verifying : Transfer → Image → Transfer
-after_verifying t (Good version) = t with_ticks 0 with_phase Staged with_staged version
-after_verifying t (Bad reason i) = t with_ticks 0 with_phase Failed with_reason (reason_number reason) with_faulty i
+after_verifying t (Ok version) = t with_ticks 0 with_phase Staged with_staged version
+after_verifying t (Err fault) = t with_ticks 0 with_phase Failed with_reason (reason_number fault.reason) with_faulty fault.number
 
 -- "Tick. .. In Verifying with more than 1 tick left: one less." "Other phases: no change."
 abbrev pub tick_change : Transfer → (area : List ℕ) → Transfer

@@ -1,5 +1,11 @@
-// The numbers and the types that document 01 speaks of. They carry no code: the rules over them stand in specs/, the theorems in proofs/.
+// The numbers and the types that document 01 speaks of, with the numbers of phases and reasons, and one check of the page. The rules over them stand in specs/, the
+// theorems in proofs/.
 #![tactic(auto)]
+
+ghost use Rattle.std.specs.Prelude.{◌≡◌, [], ◌∷◌};
+ghost use Rattle.rules.specs.Record.{phase_number};
+ghost use Rattle.rules.specs.Fault.{reason_number};
+ghost use Rattle.rules.specs.Refusals.{◌gives◌, verdict};
 
 // Numbers of this product, as in specs/Numbers.antt. Staging area 16,384 bytes.
 pub const AREA_SIZE: usize = 16384;
@@ -44,7 +50,7 @@ pub const PAYLOAD_PLACE: usize = 12;
 pub const SUM_PLACE: usize = 124;
 
 // The device record's phase.
-#[derive(Clone, Copy)]
+#[derive(Clone, Copy, PartialEq, Eq)]
 pub enum Phase {
     Idle,
     Receiving,
@@ -53,8 +59,23 @@ pub enum Phase {
     Failed,
 }
 
+// The phases are numbered in the page's order.
+impl From<Phase> for u8 {
+    ghost from_gives = { λ phase number. number ≡ phase_number phase };
+
+    fn from(phase: Phase) -> u8 {
+        match phase {
+            Phase::Idle => 0,
+            Phase::Receiving => 1,
+            Phase::Verifying => 2,
+            Phase::Staged => 3,
+            Phase::Failed => 4,
+        }
+    }
+}
+
 // The device record's firmware part: the module's own current context (document 02, T-09), bytes received, ticks left, running and staged version; and in Failed, of
-// the image's first fault (T-03), the reason and the faulty record's number.
+// the image's first fault (T-03), the reason and the faulty record's number. The reason stays a number: a record may hold any byte there (device_decode::round_trip).
 #[derive(Clone, Copy)]
 pub struct Transfer {
     pub phase: Phase,
@@ -68,7 +89,7 @@ pub struct Transfer {
 }
 
 // The three thresholds with their enable bits.
-#[derive(Clone, Copy)]
+#[derive(Clone, Copy, Default)]
 pub struct Thresholds {
     pub enable: u16,
     pub spare: u8,
@@ -87,7 +108,7 @@ pub struct Security {
 }
 
 // The last health reading: spare, media and controller temperature words (document 02, T-04).
-#[derive(Clone, Copy)]
+#[derive(Clone, Copy, Default)]
 pub struct Reading {
     pub spare: u8,
     pub media: u16,
@@ -112,17 +133,25 @@ pub struct Cabinet {
     pub second: Device,
 }
 
-// What a refusal gives: an R number, which writes nothing, or a status with its extended number.
+// What a refusal gives: an R number, which writes nothing, or a status with its extended number. They stay numbers: document 01 has no other names for them, and is
+// read beside the definitions (Refusals.R1Check and its like).
 #[derive(Clone, Copy)]
 pub enum Refusal {
     R { number: u8 },
     Status { status: u16, ext: u16 },
 }
 
-#[derive(Clone, Copy)]
-pub enum Verdict {
-    Accepted,
-    Refused(Refusal),
+// What comes of an event's checks: it is accepted, or refused.
+pub type Verdict = Result<(), Refusal>;
+
+impl Refusal {
+    // One check: where its test is true, this refusal is given.
+    #[tactic(auto, unfolding(crate::specs::Refusals::verdict))]
+    pub fn when(self, test: bool) -> Verdict
+        ensures { result ≡ verdict ((test gives self) ∷ []) }
+    {
+        if test { Err(self) } else { Ok(()) }
+    }
 }
 
 // The reply to an event: the verdict, and how many bytes of the answer buffer were written.
@@ -152,18 +181,24 @@ pub enum Function {
     Unserved,
 }
 
-// A row of the table: the function, the first revision that serves it, its request bytes (`more`: and any number after them), its answer bytes.
+// How many bytes a request has: so many exactly, or so many and any number after them.
+#[derive(Clone, Copy, PartialEq, Eq)]
+pub enum RequestLength {
+    Exactly(usize),
+    AtLeast(usize),
+}
+
+// A row of the table: the function, the first revision that serves it, its request bytes, its answer bytes.
 #[derive(Clone, Copy)]
 pub struct Row {
     pub function: Function,
     pub since: u8,
-    pub request: usize,
-    pub more: bool,
+    pub request: RequestLength,
     pub answer: usize,
 }
 
 // Why the received bytes are no good image, in the order of the tests: the size; then of a record its number, count, version and sum.
-#[derive(Clone, Copy)]
+#[derive(Clone, Copy, PartialEq, Eq)]
 pub enum Reason {
     Size,
     Number,
@@ -172,12 +207,30 @@ pub enum Reason {
     Sum,
 }
 
-// What the received bytes are: a good image with its version, or a bad one with its first fault, a reason and a record number.
-#[derive(Clone, Copy)]
-pub enum Image {
-    Good { version: u64 },
-    Bad { reason: Reason, number: u8 },
+// They are numbered 1 to 5, in that order.
+impl From<Reason> for u8 {
+    ghost from_gives = { λ reason number. number ≡ reason_number reason };
+
+    fn from(reason: Reason) -> u8 {
+        match reason {
+            Reason::Size => 1,
+            Reason::Number => 2,
+            Reason::Count => 3,
+            Reason::Version => 4,
+            Reason::Sum => 5,
+        }
+    }
 }
+
+// The first fault of a bad image: a reason and a record number.
+#[derive(Clone, Copy, PartialEq, Eq)]
+pub struct FirstFault {
+    pub reason: Reason,
+    pub number: u8,
+}
+
+// What the received bytes are: a good image with its version, or a bad one with its first fault.
+pub type Image = Result<u64, FirstFault>;
 
 // What a 544-byte record of a log says. A call, a power cycle and a reading name their module (document 02, T-09).
 #[derive(Clone, Copy)]
@@ -195,15 +248,13 @@ pub enum Entry {
     },
     Health {
         named: u8,
-        spare: u8,
-        media: u16,
-        controller: u16,
+        reading: Reading,
     },
     Bad,
 }
 
 // A report's counts beside its grid: function 0 calls, which answer a mask; ticks; power cycles; readings; bad records; short tails.
-#[derive(Clone, Copy)]
+#[derive(Clone, Copy, Default)]
 pub struct Counts {
     pub masks: u32,
     pub ticks: u32,
@@ -213,33 +264,40 @@ pub struct Counts {
     pub shorts: u32,
 }
 
-// What making an image comes to: how many bytes were written, or why none was.
-#[derive(Clone, Copy)]
-pub enum Making {
-    Made { length: usize },
+// Why no image is made.
+#[derive(Clone, Copy, PartialEq, Eq)]
+pub enum NotMade {
     VersionZero,
     PayloadOver128Records,
     OutputTooShort,
 }
 
-// What reading an image back comes to, likewise.
-#[derive(Clone, Copy)]
-pub enum ReadingBack {
-    Read { length: usize },
+// What making an image comes to: how many bytes were written, or why none was.
+pub type Making = Result<usize, NotMade>;
+
+// Why no image is read back.
+#[derive(Clone, Copy, PartialEq, Eq)]
+pub enum NotRead {
     NotGoodImage,
     OutputTooShort,
 }
 
-// What a comparison of two logs comes to: how many leading places are equal, how many places differ, and how many bytes are left over; or that more differ than the
-// list holds, and how many in all.
-#[derive(Clone, Copy)]
-pub enum Comparison {
-    Compared {
-        leading: u64,
-        differing: u64,
-        left: u64,
-    },
-    Full {
-        differing: u64,
-    },
+// What reading an image back comes to, likewise.
+pub type ReadingBack = Result<usize, NotRead>;
+
+// A report of two logs: how many leading places are equal, how many places differ, and how many bytes are left over.
+#[derive(Clone, Copy, PartialEq, Eq)]
+pub struct Compared {
+    pub leading: u64,
+    pub differing: u64,
+    pub left: u64,
 }
+
+// More places differ than the list holds, and how many in all.
+#[derive(Clone, Copy, PartialEq, Eq)]
+pub struct ListFull {
+    pub differing: u64,
+}
+
+// What a comparison of two logs comes to.
+pub type Comparison = Result<Compared, ListFull>;

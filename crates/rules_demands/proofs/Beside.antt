@@ -8,9 +8,11 @@ use Rattle.rules.{specs.Tests.{◌=?◌}, specs.Record.{Whole, device_of, ◌is�
 use Rattle.rules.{specs.Security.{GetSecurityState, SetPassphrase, Disable, Unlock, Freeze}, specs.Module.{call_of, call_in}, specs.Cabinet.{call, tick, power, reading, step}}
 use Rattle.rules.{specs.Transfers.{machine, Answer, Kind, call_kind, if_accepted}, specs.Beside.{NoSend, AreaStays, last_reading, LastKept, FrozenFirst, TakenOver}}
 use Rattle.rules.{specs.declared.Phase.Phase, specs.declared.Phase.TheVariants.Staged, specs.declared.Row.Row, specs.declared.Security.Security, specs.declared.Refusal.Refusal}
-use Rattle.rules.{specs.declared.Verdict.Verdict, specs.declared.Verdict.TheVariants.{Accepted, Refused}, specs.declared.Reading.Reading, proofs.page.Choice.{if_both, or_true}}
+use Rattle.rules.{specs.declared.Reading.Reading, proofs.page.Choice.{if_both, or_true}}
 use Rattle.rules_demands.specs.Beside.{AreaWrittenOut, LastWrittenOut, FrozenWrittenOut, BesideWrittenOut}
 use Rattle.rules_demands.proofs.Places.{looked_at}
+use Rattle.rules.specs.Refusals.{Verdict}
+use Rattle.std.specs.Prelude.{Ok, Err}
 
 -- no Send: another function, or a refused call
 module _ (named host revision : ℕ) (request : List ℕ) (got : Answer) where
@@ -21,7 +23,7 @@ module _ (named host revision : ℕ) (request : List ℕ) (got : Answer) where
       (λ o. tt, (λ o. tt, (λ o. tt, (λ o. tt, (λ o. if_both NoSend (refused? got.reply.verdict) tt tt, (λ o. absurd (o refl), (λ o. if_both NoSend (refused? got.reply.verdict) tt tt, (λ o. tt, (λ o. tt, (λ o. tt, (λ o. tt, (λ o. tt, (λ o. tt, (λ o. tt, tt))))))))))))))
       (λ lacks o. tt)
 
-  module _ (refusal : Refusal) (e : got.reply.verdict ≡ Refused refusal) where
+  module _ (refusal : Refusal) (e : got.reply.verdict ≡ Err refusal) where
     none_accepted : (kind : Kind) → NoSend (if_accepted got kind)
     none_accepted kind = rw e tt
 
@@ -65,8 +67,8 @@ frozen_written first s either =
 
 -- a reading of the other module, whatever its verdict
 other_reading : (own : ℕ) (w : Whole) (named : ℕ) (new : Reading) → (named ≡ own → ⊥) → (v : Verdict) → last_reading own w (reading named new) v ≡ (device_of own w.cabinet).reading
-other_reading own w named new other Accepted = ap (λ (b : Bool). if b then new else (device_of own w.cabinet).reading) (ne_eqb named own other)
-other_reading own w named new other (Refused refusal) = refl
+other_reading own w named new other (Ok tt) = ap (λ (b : Bool). if b then new else (device_of own w.cabinet).reading) (ne_eqb named own other)
+other_reading own w named new other (Err refusal) = refl
 
 last_written : LastKept → (own : ℕ) → own ≤ 1 → (w : Whole) → LastWrittenOut own w
 last_written kept own l w =

@@ -11,9 +11,10 @@ use Rattle.rules.{specs.Table.{table, row_of}, specs.Module.device_keeping, spec
 use Rattle.rules.specs.Demand1.{OfCall, OfReading, buffer_too_short, module_over1, spare_over100, MayGive, Demand1}
 use Rattle.rules.{specs.declared.Row.Row, specs.declared.Function.Function, specs.declared.Reading.Reading, specs.declared.Device.Device}
 use Rattle.rules.specs.declared.Function.TheVariants.{Mask, GetHealth, GetThreshold, GetFwInfo, Start, Send, Finish, Query, SetThreshold, GetSecurityState, SetPassphrase, Disable, Unlock, Freeze, Unserved}
-use Rattle.rules.{specs.declared.Refusal.TheVariants.{R, Status}, specs.declared.Verdict.TheVariants.{Accepted, Refused}}
+use Rattle.rules.{specs.declared.Refusal.TheVariants.{R, Status}}
 use Rattle.rules_demands.specs.Calls.{over_front, bytes_told, Served, CallWrittenOut, ReadingWrittenOut, LendsTooLittle, NamesNoModule, ReadsOver100, Demand1WrittenOut}
 use Rattle.rules_demands.proofs.Places.{looked_at}
+use Rattle.std.specs.Prelude.{Ok, Err}
 
 -- the mask is function 0
 abbrev mask? : Function → Bool
@@ -70,7 +71,7 @@ left_by true z w = in_place z one_attempt_more w
 left_by false z w = refl
 
 module _ (w : Whole) (named revision index : ℕ) (request buffer : List ℕ) (of : OfCall w named revision index request buffer) where
-  served : (call_result w named revision index request buffer).reply.verdict ≡ Accepted → Served index buffer (call_result w named revision index request buffer)
+  served : (call_result w named revision index request buffer).reply.verdict ≡ Ok tt → Served index buffer (call_result w named revision index request buffer)
   served e =
       let a = of.answers e in
       record { bytes = a.bytes; filled = a.written ∙ over_front_law a.bytes buffer; size = a.long; told = a.told; status_0 = λ other. a.begins (λ f. other (mask_at_0 index (ap mask? f))) }
@@ -85,7 +86,7 @@ module _ (w : Whole) (named revision index : ℕ) (request buffer : List ℕ) (o
         by_status = λ status ext e.
             let l = of.leaves (Status status ext) e in
             (λ i. record { reply = record { verdict = e i; length = l.3 i }; after = record { cabinet = l.0 i; area = l.1 i }; answer = l.2 i })
-            ∙ (λ i. record { reply = record { verdict = Refused (Status status ext); length = bytes_told status (row_of index).answer }; after = left_by (status =? 11) (named =? 0) w i; answer = over_front_law (le 2 status ++ le 2 ext ++ zeros (bytes_told status (row_of index).answer - 4)) buffer i });
+            ∙ (λ i. record { reply = record { verdict = Err (Status status ext); length = bytes_told status (row_of index).answer }; after = left_by (status =? 11) (named =? 0) w i; answer = over_front_law (le 2 status ++ le 2 ext ++ zeros (bytes_told status (row_of index).answer - 4)) buffer i });
         served = served;
       }
 

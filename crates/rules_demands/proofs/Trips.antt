@@ -7,9 +7,11 @@ use borrow.Author.Tests.{le-ltb, eq-eqb}
 use Rattle.rules.specs.{Bytes.zeros?, Record.{possible, possible_transfer, possible_security, possible_thresholds, possible_reading, possible_parts, possible_trips, possible_cabinet, Whole, device_of, standing}}
 use Rattle.rules.specs.{Refusals.{verdict, refused?}, Table.{row_of, fits?}, Health.{above, trips}, Module.{Call, OnHealth, accepted_answer}}
 use Rattle.rules.specs.{Cabinet.{outcome, Event, step, call_checks, call_result, tick_result, power_result, reading_result}, TripsKept.{after, answer_before, RequestT08}}
-use Rattle.rules.specs.declared.{Refusal.TheVariants.{R, Status}, Verdict.Verdict, Verdict.TheVariants.{Accepted, Refused}}
+use Rattle.rules.specs.declared.{Refusal.TheVariants.{R, Status}}
 use Rattle.rules.proofs.page.Past.{named_possible}
 use Rattle.rules_demands.specs.Trips.{left, both_fresh, AllR3, TripsWrittenOut, TripsHeld}
+use Rattle.rules.specs.Refusals.{Verdict}
+use Rattle.std.specs.Prelude.{Ok, Err}
 
 -- a cabinet of which a module has another byte is not possible
 not_possible : RequestT08 → (w : Whole) (named : ℕ)
@@ -38,11 +40,11 @@ same_left [] w = refl
 same_left (event ∷ events) w = same_left events (step w event).after
 
 -- an accepted call's answer
-written : (v : Verdict) (w : Whole) (named : ℕ) (asked : Call) (n : ℕ) (buffer : List ℕ) → (outcome v w named asked n buffer).reply.verdict ≡ Accepted
+written : (v : Verdict) (w : Whole) (named : ℕ) (asked : Call) (n : ℕ) (buffer : List ℕ) → (outcome v w named asked n buffer).reply.verdict ≡ Ok tt
     → (outcome v w named asked n buffer).answer ≡ accepted_answer (standing named w) asked ++ drop (0 + length (accepted_answer (standing named w) asked)) buffer
-written Accepted w named asked n buffer e = refl
-written (Refused (R number)) w named asked n buffer e = absurd (true≢false (ap refused? e))
-written (Refused (Status status ext)) w named asked n buffer e = absurd (true≢false (ap refused? e))
+written (Ok tt) w named asked n buffer e = refl
+written (Err (R number)) w named asked n buffer e = absurd (true≢false (ap refused? e))
+written (Err (Status status ext)) w named asked n buffer e = absurd (true≢false (ap refused? e))
 
 pub written_out : RequestT08 → TripsWrittenOut
 unfolding row_of call_result

@@ -7,23 +7,25 @@ use Rattle.rules.{specs.Tests.{◌=?◌}, specs.Record.Whole, specs.Table.{table
 use Rattle.rules.specs.History.{keep, history_of, end, Plays}
 use Rattle.rules.specs.Transfers.{Answer, machine, Exchange, History, Kind, Started, Sent, Finished, Ticked, Powered, Other, call_kind, event_kind, kind_of}
 use Rattle.rules.{specs.Sends.{is_send_of, own_sends, others, piece_of, pieces, tick_count, ticks_in, power_count, power_cycles}, specs.Demand3.{remains, struck}}
-use Rattle.rules.{specs.declared.Row.Row, specs.declared.Refusal.TheVariants.{R, Status}, specs.declared.Verdict.Verdict}
-use Rattle.rules.{specs.declared.Verdict.TheVariants.{Accepted, Refused}, proofs.page.Choice.if_both, proofs.page.Rows.looked_up}
+use Rattle.rules.{specs.declared.Row.Row, specs.declared.Refusal.TheVariants.{R, Status}}
+use Rattle.rules.{proofs.page.Choice.if_both, proofs.page.Rows.looked_up}
 use Rattle.rules_demands.specs.Words.{accepted_as, answered_as, what, stays, remaining, send_with, sends_with, others_than, bytes_of, joined, one_for_tick, ticks, one_for_power, powers, events_of, comes_to, answers_to}
 use Rattle.rules_demands.proofs.Places.{looked_at}
+use Rattle.rules.specs.Refusals.{Verdict}
+use Rattle.std.specs.Prelude.{Ok, Err}
 
 -- what a call is, by the function of its index or by the index itself
 kind_call : (named host revision index : ℕ) (request lent : List ℕ) (v : Verdict) (n : ℕ) (buffer : List ℕ)
     → call_kind named host (call_in revision index request) (record { reply = record { verdict = v; length = n }; buffer = buffer })
     ≡ answered_as (call host named revision index request lent) v buffer
 unfolding row_of
-kind_call named host revision index request lent Accepted n buffer =
-    looked_at (λ (i : ℕ) (r : Row). call_kind named host (call_of r.function revision request) (record { reply = record { verdict = Accepted; length = n }; buffer = buffer }) ≡ accepted_as named host i request buffer)
+kind_call named host revision index request lent (Ok tt) n buffer =
+    looked_at (λ (i : ℕ) (r : Row). call_kind named host (call_of r.function revision request) (record { reply = record { verdict = Ok tt; length = n }; buffer = buffer }) ≡ accepted_as named host i request buffer)
     index table
     (refl, (refl, (refl, (refl, (refl, (refl, (refl, (refl, (refl, (refl, (refl, (refl, (refl, (refl, tt))))))))))))))
     (λ lacks. rw (lacks.1.1.1.1.0, lacks.1.1.1.1.1.0, lacks.1.1.1.1.1.1.0))
-kind_call named host revision index request lent (Refused refusal) n buffer =
-    looked_up (λ (r : Row). call_kind named host (call_of r.function revision request) (record { reply = record { verdict = Refused refusal; length = n }; buffer = buffer }) ≡ Other)
+kind_call named host revision index request lent (Err refusal) n buffer =
+    looked_up (λ (r : Row). call_kind named host (call_of r.function revision request) (record { reply = record { verdict = Err refusal; length = n }; buffer = buffer }) ≡ Other)
     index table
     (refl, (refl, (refl, (refl, (refl, (refl, (refl, (refl, (refl, (refl, (refl, (refl, (refl, (refl, refl))))))))))))))
 
@@ -39,9 +41,9 @@ kind_is x = kind_event x.event x.got
 
 -- what remains
 stays_is : (v : Verdict) → remains v ≡ stays v
-stays_is Accepted = refl
-stays_is (Refused (R number)) = refl
-stays_is (Refused (Status status ext)) = refl
+stays_is (Ok tt) = refl
+stays_is (Err (R number)) = refl
+stays_is (Err (Status status ext)) = refl
 
 -- a list is kept as a choice says
 kept : (b : Bool) (x : Exchange) {h k : History} → h ≡ k → keep b x h ≡ (if b then x ∷ k else k)
@@ -102,9 +104,9 @@ no_count : (count : Kind → ℕ) (named host index : ℕ) (request buffer : Lis
     → ((n h c f : ℕ) → count (Finished n h c f) ≡ 0)
     → count Other ≡ 0
     → count (answered_as (call host named revision index request lent) v buffer) ≡ 0
-no_count count named host index request buffer Accepted revision lent a b c d =
+no_count count named host index request buffer (Ok tt) revision lent a b c d =
     if_both (λ (k : Kind). count k ≡ 0) (index =? 13) (a _ _ _) (if_both (λ (k : Kind). count k ≡ 0) (index =? 14) (b _ _ _ _ _) (if_both (λ (k : Kind). count k ≡ 0) (index =? 15) (c _ _ _ _) d))
-no_count count named host index request buffer (Refused refusal) revision lent a b c d = d
+no_count count named host index request buffer (Err refusal) revision lent a b c d = d
 
 tick_is : (event : Event) (got : Answer) → tick_count (event_kind event got) ≡ one_for_tick event
 tick_is (call host named revision index request lent) got =

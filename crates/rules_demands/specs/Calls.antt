@@ -14,7 +14,8 @@ use Rattle.rules.specs.Table.{row_of, served_check, length_check}
 use Rattle.rules.specs.Health.{trips}
 use Rattle.rules.specs.Module.{call_in, checks}
 use Rattle.rules.specs.Cabinet.{Result, reply, call_result, reading_result, Event, call, tick, power, reading, step}
-use Rattle.rules.specs.declared.{Refusal.Refusal, Refusal.TheVariants.{R, Status}, Verdict.TheVariants.{Accepted, Refused}, Reading.Reading, Device.Device}
+use Rattle.rules.specs.declared.{Refusal.Refusal, Refusal.TheVariants.{R, Status}, Reading.Reading, Device.Device}
+use Rattle.std.specs.Prelude.{Ok, Err}
 
 -- bytes over the front of a buffer
 abbrev pub over_front : (bytes buffer : List ℕ) → List ℕ
@@ -60,17 +61,17 @@ pub record CallWrittenOut (w : Whole) (named revision index : ℕ) (request buff
       ∷ length_check index request
       ∷ checks (standing named w) (call_in revision index request))
   -- an R number: nothing is written and nothing changes
-  pub by_R : (number : ℕ) → (call_result w named revision index request buffer).reply.verdict ≡ Refused (R number)
-      → call_result w named revision index request buffer ≡ record { reply = reply (Refused (R number)) 0; after = w; answer = buffer }
+  pub by_R : (number : ℕ) → (call_result w named revision index request buffer).reply.verdict ≡ Err (R number)
+      → call_result w named revision index request buffer ≡ record { reply = reply (Err (R number)) 0; after = w; answer = buffer }
   -- a status: it is written, with its extended number and zeros, and nothing changes but an attempt
-  pub by_status : (status ext : ℕ) → (call_result w named revision index request buffer).reply.verdict ≡ Refused (Status status ext)
+  pub by_status : (status ext : ℕ) → (call_result w named revision index request buffer).reply.verdict ≡ Err (Status status ext)
       → call_result w named revision index request buffer
       ≡ record {
-        reply = reply (Refused (Status status ext)) (bytes_told status (row_of index).answer);
+        reply = reply (Err (Status status ext)) (bytes_told status (row_of index).answer);
         after = left_by status named w;
         answer = over_front (le 2 status ++ le 2 ext ++ zeros (bytes_told status (row_of index).answer - 4)) buffer;
       }
-  pub served : (call_result w named revision index request buffer).reply.verdict ≡ Accepted
+  pub served : (call_result w named revision index request buffer).reply.verdict ≡ Ok tt
       → Served index buffer (call_result w named revision index request buffer)
 
 -- the numbers of the page's table, which calls give
@@ -105,7 +106,7 @@ IsGiven refusal =
     × (index : ℕ)
     × (request : List ℕ)
     × (buffer : List ℕ)
-    × ((call_result w named revision index request buffer).reply.verdict ≡ Refused refusal)
+    × ((call_result w named revision index request buffer).reply.verdict ≡ Err refusal)
 
 -- the event is a call with a buffer of less than 132 bytes
 abbrev pub LendsTooLittle : Event → Type 0
@@ -133,19 +134,19 @@ ReadsOver100 (reading named new) = 100 < new.spare
 pub record ReadingWrittenOut (w : Whole) (named : ℕ) (new : Reading) : Type 0 where
   pub judged_so : (reading_result w named new).reply.verdict
       ≡ verdict ((not (length w.area =? 16384) gives R 2) ∷ (1 <? named gives R 5) ∷ (not (possible_cabinet w.cabinet) gives R 3) ∷ (100 <? new.spare gives R 4) ∷ [])
-  pub nothing_changed : (refusal : Refusal) → (reading_result w named new).reply.verdict ≡ Refused refusal
-      → reading_result w named new ≡ record { reply = reply (Refused refusal) 0; after = w; answer = [] }
-  pub kept_it : (reading_result w named new).reply.verdict ≡ Accepted
-      → reading_result w named new ≡ record { reply = reply Accepted 0; after = changed_in named (λ d. d with_reading new with_trips (trips d.thresholds new)) w; answer = [] }
+  pub nothing_changed : (refusal : Refusal) → (reading_result w named new).reply.verdict ≡ Err refusal
+      → reading_result w named new ≡ record { reply = reply (Err refusal) 0; after = w; answer = [] }
+  pub kept_it : (reading_result w named new).reply.verdict ≡ Ok tt
+      → reading_result w named new ≡ record { reply = reply (Ok tt) 0; after = changed_in named (λ d. d with_reading new with_trips (trips d.thresholds new)) w; answer = [] }
 
 -- some reading is refused by this number
 abbrev pub IsGivenByReading : Refusal → Type 0
-IsGivenByReading refusal = (w : Whole) × (named : ℕ) × (new : Reading) × ((reading_result w named new).reply.verdict ≡ Refused refusal)
+IsGivenByReading refusal = (w : Whole) × (named : ℕ) × (new : Reading) × ((reading_result w named new).reply.verdict ≡ Err refusal)
 
 pub record EventWrittenOut (w : Whole) (event : Event) : Type 0 where
   pub stays_possible : possible_cabinet (step w event).after.cabinet ≡ true
   pub stays_long : length (step w event).after.area ≡ 16384
-  pub R1_R5_and_R4_alone : (number : ℕ) → (step w event).reply.verdict ≡ Refused (R number)
+  pub R1_R5_and_R4_alone : (number : ℕ) → (step w event).reply.verdict ≡ Err (R number)
       → ((number ≡ 1) × LendsTooLittle event)
       ⊎ (((number ≡ 5) × NamesNoModule event) ⊎ ((number ≡ 4) × ReadsOver100 event))
 

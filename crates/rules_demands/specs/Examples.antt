@@ -136,7 +136,7 @@ pub record TextsHeld : Type 0 where
       ∷ ascii "record kind status ext length\n0 call 0 0 8\n1 call 8 0 8\n2 power\n3 health\n4 power\n5 call 0 0 8\n6 bad\n7 bad\n8 bad\n9 bad\nend idle 2\nend receiving 2\n"
       ∷ []
   -- a reading's five bytes, each in its place; a byte beside them, before or behind; and what the replay's module 0 keeps
-  pub five_bytes : entry_of (reading_record 0 0 0 0 0) ≡ Health 0 100 0x0501 0x8000
+  pub five_bytes : entry_of (reading_record 0 0 0 0 0) ≡ Health 0 (new_reading 100 0x0501 0x8000)
   pub other_bytes : map entry_of (reading_record 1 0 0 0 0 ∷ reading_record 0 1 0 0 0 ∷ reading_record 0 0 1 0 0 ∷ reading_record 0 0 0 1 0 ∷ reading_record 0 0 0 0 1 ∷ [])
       ≡ replicate 5 Bad
   pub kept : (whole_after replay_start (reading_record 0 0 0 0 0) 1).cabinet.first.reading ≡ new_reading 100 0x0501 0x8000

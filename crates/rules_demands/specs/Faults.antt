@@ -9,8 +9,10 @@ use Rattle.rules.specs.Tests.{◌≤?◌, ◌=?◌}
 use Rattle.rules.specs.{Bytes.{number_at}, Image.{sum_of_words, good_record, good_image}, Record.{possible, possible_parts, possible_cabinet, fresh}, Health.{new_reading, trips}, Adopt.{possible_before, adoptable, adopted, adopted_cabinet}}
 use Rattle.rules.specs.With.{◌with_transfer◌, ◌with_thresholds◌, ◌with_reading◌, ◌with_trips◌, ◌with_phase◌, ◌with_current◌, ◌with_received◌, ◌with_reason◌}
 use Rattle.rules.specs.Fault.{reason_number, none, ◌of_record◌, first_fault, image_of}
-use Rattle.rules.specs.declared.{Reason.Reason, Reason.TheVariants.{Size, Number, Count, Version, Sum}, Image.TheVariants.{Good, Bad}}
+use Rattle.rules.specs.declared.{Reason.Reason, Reason.TheVariants.{Size, Number, Count, Version, Sum}}
 use Rattle.rules.specs.declared.{Phase.Phase, Phase.TheVariants.{Idle, Failed}, Device.Device}
+use Rattle.rules.specs.Fault.{bad_image}
+use Rattle.std.specs.Prelude.{Ok}
 
 -- the tests, by the bytes: the size; then of record i its number, its count, its version and its sum
 abbrev pub sized : List ℕ → Bool
@@ -49,8 +51,8 @@ pub record FaultsWrittenOut : Type 0 where
   pub sum : (bytes : List ℕ) (i : ℕ) → (first_fault bytes ≡ (Sum of_record i)) ↔ (Reached i bytes × (numbered i bytes ≡ true) × (counted i bytes ≡ true) × (versioned i bytes ≡ true) × (summed i bytes ≡ false))
   pub good_before : (bytes : List ℕ) (reason : Reason) (i j : ℕ) → first_fault bytes ≡ (reason of_record i) → j < i
       → good_record j (length bytes / 128) (number_at 8 4 bytes) (bytes_of j bytes) ≡ true
-  pub told_good : (bytes : List ℕ) (version : ℕ) → (image_of bytes ≡ Good version) ↔ ((good_image bytes ≡ true) × (version ≡ number_at 8 4 bytes))
-  pub told_bad : (bytes : List ℕ) (reason : Reason) (i : ℕ) → (image_of bytes ≡ Bad reason i) ↔ (first_fault bytes ≡ (reason of_record i))
+  pub told_good : (bytes : List ℕ) (version : ℕ) → (image_of bytes ≡ Ok version) ↔ ((good_image bytes ≡ true) × (version ≡ number_at 8 4 bytes))
+  pub told_bad : (bytes : List ℕ) (reason : Reason) (i : ℕ) → (image_of bytes ≡ bad_image reason i) ↔ (first_fault bytes ≡ (reason of_record i))
 
 -- Idle with received 0, with the trips byte that thresholds and reading give, and nothing else changes
 pub record IdleWithAllElse (d taken : Device) : Type 0 where

@@ -11,8 +11,9 @@ use Rattle.rules.specs.Fault.{image_of}
 use Rattle.rules.specs.Cabinet.{Event, tick, step}
 use Rattle.rules.specs.History.{All, ◌and_then◌}
 use Rattle.rules.specs.Transfers.{Exchange, History, Kind, Started, Sent, Finished, Ticked, Powered, Other}
-use Rattle.rules.specs.declared.{Image.TheVariants.Good, Phase.TheVariants.Staged, Transfer.Transfer}
+use Rattle.rules.specs.declared.{Phase.TheVariants.Staged, Transfer.Transfer}
 use Rattle.rules_demands.specs.Words.{what, remaining, sends_with, others_than, joined, ticks, powers, events_of, comes_to, answers_to, honest?}
+use Rattle.std.specs.Prelude.{Ok}
 
 -- the cabinet after a history; a module's transfer; and the bytes of the area that it has received
 abbrev pub after : Whole → History → Whole
@@ -116,7 +117,7 @@ pub record DueWrittenOut (named : ℕ) (h : History) (version : ℕ) : Type 0 wh
   pub transfer : TransferIn h
   pub its_own : transfer.named ≡ named
   pub finish_0 : transfer.flag ≡ 0
-  pub good : image_of (joined (sends_with transfer.context transfer.between)) ≡ Good version
+  pub good : image_of (joined (sends_with transfer.context transfer.between)) ≡ Ok version
   pub seven : ticks transfer.since ≡ 7
   pub powered : powers named transfer.since ≡ 0
 

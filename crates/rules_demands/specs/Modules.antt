@@ -15,8 +15,10 @@ use Rattle.rules.specs.Health.{new_reading}
 use Rattle.rules.specs.Transfer.{Start, transfer_checks}
 use Rattle.rules.specs.Cabinet.{Event, call, tick, power, reading, step}
 use Rattle.rules.specs.Log.{entry_of}
-use Rattle.rules.specs.declared.{Refusal.Refusal, Refusal.TheVariants.{R, Status}, Verdict.Verdict, Verdict.TheVariants.{Accepted, Refused}, Reply.Reply, Reading.Reading, Device.Device}
+use Rattle.rules.specs.declared.{Refusal.Refusal, Refusal.TheVariants.{R, Status}, Reply.Reply, Reading.Reading, Device.Device}
 use Rattle.rules.specs.declared.{Phase.Phase, Phase.TheVariants.{Idle, Receiving, Verifying, Staged, Failed}, Entry.TheVariants.{Call, Tick, Power, Health, Bad}}
+use Rattle.rules.specs.Refusals.{Verdict}
+use Rattle.std.specs.Prelude.{Ok, Err}
 
 -- an event that names one module, or none that there is, leaves the record of the other, from any record and any area
 pub record OtherWrittenOut (w : Whole) : Type 0 where
@@ -70,8 +72,8 @@ pub record ModulesWrittenOut : Type 0 where
       → meant own events ≡ meant own others
       → heard (is_start_for own) (begun area) events ≡ heard (is_start_for own) (begun another) others
       → heard (is_for own) (begun area) events ≡ heard (is_for own) (begun another) others
-  pub of_ticks : (w : Whole) (refusal : Refusal) → (step w tick).reply.verdict ≡ Refused refusal → (refusal ≡ R 2) ⊎ (refusal ≡ R 3)
-  pub of_power : (w : Whole) (named : ℕ) (refusal : Refusal) → (step w (power named)).reply.verdict ≡ Refused refusal
+  pub of_ticks : (w : Whole) (refusal : Refusal) → (step w tick).reply.verdict ≡ Err refusal → (refusal ≡ R 2) ⊎ (refusal ≡ R 3)
+  pub of_power : (w : Whole) (named : ℕ) (refusal : Refusal) → (step w (power named)).reply.verdict ≡ Err refusal
       → (refusal ≡ R 2) ⊎ ((refusal ≡ R 5) ⊎ (refusal ≡ R 3))
 
 -- a host's calls at revision 2, lent 132 zeros: a Start, a Finish that aborts, and a Query, to a module
@@ -115,14 +117,14 @@ later = start 1 ∷ aborts 1 1 ∷ start 0 ∷ asks_after 0 1 ∷ []
 -- the same status and another context (docs/DECISIONS.md, B36). So both must be alike.
 pub record StartsNeeded : Type 0 where
   pub meant_alike : meant 0 beside ≡ meant 0 alone
-  pub alone_answered : verdicts alone ≡ Accepted ∷ []
-  pub beside_answered : verdicts beside ≡ Refused (Status 8 0) ∷ []
+  pub alone_answered : verdicts alone ≡ (Ok tt) ∷ []
+  pub beside_answered : verdicts beside ≡ Err (Status 8 0) ∷ []
   pub meant_alike_later : meant 0 later ≡ meant 0 first
   pub statuses_alike : start_verdicts later ≡ start_verdicts first
   pub first_context : start_contexts first ≡ 1 ∷ []
   pub later_context : start_contexts later ≡ 2 ∷ []
-  pub first_answered : verdicts first ≡ Accepted ∷ Refused (Status 7 4) ∷ []
-  pub later_answered : verdicts later ≡ Accepted ∷ Refused (Status 7 1) ∷ []
+  pub first_answered : verdicts first ≡ (Ok tt) ∷ Err (Status 7 4) ∷ []
+  pub later_answered : verdicts later ≡ (Ok tt) ∷ Err (Status 7 1) ∷ []
 
 -- a module in each phase, with this context; and cabinets of two modules with so many contexts given out
 abbrev pub in_phase : Phase → (context : ℕ) → Device
@@ -173,17 +175,17 @@ pub record ModulesHeld : Type 0 where
   pub contexts_of_0 : map (λ context. map (λ d. is_possible (two 1 d fresh)) (in_each_phase context)) (0 ∷ 1 ∷ 2 ∷ []) ≡ (true ∷ false ∷ false ∷ false ∷ false ∷ []) ∷ replicate 5 true ∷ replicate 5 false ∷ []
   pub contexts_of_1 : map (λ context. map (λ d. is_possible (two 1 fresh d)) (in_each_phase context)) (0 ∷ 1 ∷ 2 ∷ []) ≡ (true ∷ false ∷ false ∷ false ∷ false ∷ []) ∷ replicate 5 true ∷ replicate 5 false ∷ []
   -- both modules Receiving: R3 to each module's events and to a tick; R5 to those of module 2; R2 to all where the area is short
-  pub both_receiving : map (answered (two 1 (in_phase Receiving 1) (in_phase Receiving 1))) (each_of 0 ++ each_of 1 ++ (tick ∷ [])) ≡ replicate 7 (Refused (R 3))
-  pub over_1_first : map (answered (two 1 (in_phase Receiving 1) (in_phase Receiving 1))) (each_of 2) ≡ replicate 3 (Refused (R 5))
-  pub short_first : map (answered (short_of (two 1 (in_phase Receiving 1) (in_phase Receiving 1)))) (each_of 0 ++ each_of 2 ++ (tick ∷ [])) ≡ replicate 7 (Refused (R 2))
-  pub over_1_of_good : map (answered (two 1 (in_phase Receiving 1) fresh)) (each_of 2) ≡ replicate 3 (Refused (R 5))
+  pub both_receiving : map (answered (two 1 (in_phase Receiving 1) (in_phase Receiving 1))) (each_of 0 ++ each_of 1 ++ (tick ∷ [])) ≡ replicate 7 (Err (R 3))
+  pub over_1_first : map (answered (two 1 (in_phase Receiving 1) (in_phase Receiving 1))) (each_of 2) ≡ replicate 3 (Err (R 5))
+  pub short_first : map (answered (short_of (two 1 (in_phase Receiving 1) (in_phase Receiving 1)))) (each_of 0 ++ each_of 2 ++ (tick ∷ [])) ≡ replicate 7 (Err (R 2))
+  pub over_1_of_good : map (answered (two 1 (in_phase Receiving 1) fresh)) (each_of 2) ≡ replicate 3 (Err (R 5))
   -- a Start: 7/1, 7/2, then 8 where the area is taken, then 8 where every context is given out
-  pub area_free : starts_in 1 false ≡ Accepted ∷ Refused (Status 7 1) ∷ Refused (Status 7 1) ∷ Refused (Status 7 2) ∷ Accepted ∷ []
-  pub area_taken : starts_in 1 true ≡ Refused (Status 8 0) ∷ Refused (Status 7 1) ∷ Refused (Status 7 1) ∷ Refused (Status 7 2) ∷ Refused (Status 8 0) ∷ []
-  pub all_given : starts_in 4294967295 false ≡ Refused (Status 8 0) ∷ Refused (Status 7 1) ∷ Refused (Status 7 1) ∷ Refused (Status 7 2) ∷ Refused (Status 8 0) ∷ []
+  pub area_free : starts_in 1 false ≡ (Ok tt) ∷ Err (Status 7 1) ∷ Err (Status 7 1) ∷ Err (Status 7 2) ∷ (Ok tt) ∷ []
+  pub area_taken : starts_in 1 true ≡ Err (Status 8 0) ∷ Err (Status 7 1) ∷ Err (Status 7 1) ∷ Err (Status 7 2) ∷ Err (Status 8 0) ∷ []
+  pub all_given : starts_in 4294967295 false ≡ Err (Status 8 0) ∷ Err (Status 7 1) ∷ Err (Status 7 1) ∷ Err (Status 7 2) ∷ Err (Status 8 0) ∷ []
   -- the host byte: its high four bits are the module, its low four the host, and zero but in a call
   pub calls_name : map (λ byte. entry_of (call_by byte)) (0x01 ∷ 0x04 ∷ 0x11 ∷ 0x14 ∷ []) ≡ Call 0 1 2 13 0 ∷ Call 0 4 2 13 0 ∷ Call 1 1 2 13 0 ∷ Call 1 4 2 13 0 ∷ []
   pub calls_bad : map (λ byte. entry_of (call_by byte)) (0x00 ∷ 0x05 ∷ 0x10 ∷ 0x15 ∷ 0x21 ∷ 0xF1 ∷ []) ≡ replicate 6 Bad
   pub ticks_name : map (λ byte. entry_of (record_by 2 byte)) (0x00 ∷ 0x01 ∷ 0x10 ∷ []) ≡ Tick ∷ Bad ∷ Bad ∷ []
   pub powers_name : map (λ byte. entry_of (record_by 3 byte)) (0x00 ∷ 0x10 ∷ 0x01 ∷ 0x11 ∷ 0x20 ∷ []) ≡ Power 0 ∷ Power 1 ∷ Bad ∷ Bad ∷ Bad ∷ []
-  pub readings_name : map (λ byte. entry_of (record_by 4 byte)) (0x00 ∷ 0x10 ∷ 0x01 ∷ 0x11 ∷ 0x20 ∷ []) ≡ Health 0 0 0 0 ∷ Health 1 0 0 0 ∷ Bad ∷ Bad ∷ Bad ∷ []
+  pub readings_name : map (λ byte. entry_of (record_by 4 byte)) (0x00 ∷ 0x10 ∷ 0x01 ∷ 0x11 ∷ 0x20 ∷ []) ≡ Health 0 (new_reading 0 0 0) ∷ Health 1 (new_reading 0 0 0) ∷ Bad ∷ Bad ∷ Bad ∷ []

@@ -10,11 +10,13 @@ use Rattle.rules.specs.Refusals.{◌gives◌, verdict}
 use Rattle.rules.specs.Thresholds.{set_threshold_of, threshold_checks}
 use Rattle.rules.specs.Transfer.{finish_of, transfer_checks, start_change}
 use Rattle.rules.specs.Cabinet.{Result, reply, call, step}
-use Rattle.rules.specs.declared.{Refusal.TheVariants.Status, Verdict.TheVariants.{Accepted, Refused}, Verdict.Verdict, Phase.TheVariants.Receiving}
+use Rattle.rules.specs.declared.{Refusal.TheVariants.Status, Phase.TheVariants.Receiving}
+use Rattle.rules.specs.Refusals.{Verdict}
+use Rattle.std.specs.Prelude.{Ok, Err}
 
 -- status 3, its four bytes at the front of the buffer, and nothing changed
 abbrev pub refused3 : Whole → (buffer : List ℕ) → Result
-refused3 w buffer = record { reply = reply (Refused (Status 3 0)) 4; after = w; answer = 3 ∷ 0 ∷ 0 ∷ 0 ∷ drop 4 buffer }
+refused3 w buffer = record { reply = reply (Err (Status 3 0)) 4; after = w; answer = 3 ∷ 0 ∷ 0 ∷ 0 ∷ drop 4 buffer }
 
 -- of every cabinet that gives no R number, each of its modules, and every host
 pub record ReservedWrittenOut (w : Whole) (host named : ℕ) (buffer : List ℕ) : Type 0 where
@@ -34,7 +36,7 @@ pub record ReservedWrittenOut (w : Whole) (host named : ℕ) (buffer : List ℕ)
   pub set_zeros : (low spare a b c d : ℕ) → low ≤ 7
       → (step w (call host named 2 17 (low ∷ 0 ∷ spare ∷ a ∷ b ∷ c ∷ d ∷ []) buffer)).reply.verdict ≡ verdict ((100 <? spare gives Status 3 0) ∷ [])
   -- one that is accepted stores its enable bits as they came, its spare and its words
-  pub stored : (low high spare a b c d : ℕ) → (step w (call host named 2 17 (low ∷ high ∷ spare ∷ a ∷ b ∷ c ∷ d ∷ []) buffer)).reply.verdict ≡ Accepted
+  pub stored : (low high spare a b c d : ℕ) → (step w (call host named 2 17 (low ∷ high ∷ spare ∷ a ∷ b ∷ c ∷ d ∷ []) buffer)).reply.verdict ≡ Ok tt
       → (device_of named (step w (call host named 2 17 (low ∷ high ∷ spare ∷ a ∷ b ∷ c ∷ d ∷ []) buffer)).after.cabinet).thresholds
       ≡ record { enable = low + 256 * high; spare = spare; media = a + 256 * b; controller = c + 256 * d }
 
@@ -59,7 +61,7 @@ abbrev pub judged_set : (enable spare : ℕ) → Verdict
 judged_set enable spare = verdict (threshold_checks (set_threshold_of (le 2 enable ++ (spare ∷ 0 ∷ 0 ∷ 0 ∷ 0 ∷ []))))
 
 pub record ReservedHeld : Type 0 where
-  pub finish_bits : map (λ k. judged_finish 0 (2 ^ k)) (bits ++ more_bits) ≡ replicate 24 (Refused (Status 3 0))
-  pub finish_flags : map (λ flag. judged_finish flag 0) (0 ∷ 1 ∷ 2 ∷ []) ≡ Accepted ∷ Accepted ∷ Refused (Status 3 0) ∷ []
-  pub set_bits : map (λ k. judged_set (2 ^ k) 100) bits ≡ Accepted ∷ Accepted ∷ Accepted ∷ replicate 13 (Refused (Status 3 0))
-  pub set_spares : map (judged_set 7) (100 ∷ 101 ∷ []) ≡ Accepted ∷ Refused (Status 3 0) ∷ []
+  pub finish_bits : map (λ k. judged_finish 0 (2 ^ k)) (bits ++ more_bits) ≡ replicate 24 (Err (Status 3 0))
+  pub finish_flags : map (λ flag. judged_finish flag 0) (0 ∷ 1 ∷ 2 ∷ []) ≡ (Ok tt) ∷ (Ok tt) ∷ Err (Status 3 0) ∷ []
+  pub set_bits : map (λ k. judged_set (2 ^ k) 100) bits ≡ (Ok tt) ∷ (Ok tt) ∷ (Ok tt) ∷ replicate 13 (Err (Status 3 0))
+  pub set_spares : map (judged_set 7) (100 ∷ 101 ∷ []) ≡ (Ok tt) ∷ Err (Status 3 0) ∷ []

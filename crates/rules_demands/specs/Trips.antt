@@ -7,7 +7,8 @@ use Rattle.std.specs.Prelude.{length, drop, replicate}
 use Rattle.rules.specs.Record.{fresh, possible, possible_parts, possible_cabinet, Whole, whole_of, device_of}
 use Rattle.rules.specs.Health.{new_reading, trips, health_answer}
 use Rattle.rules.specs.Cabinet.{Event, call, tick, power, reading, step}
-use Rattle.rules.specs.declared.{Refusal.TheVariants.R, Verdict.TheVariants.{Accepted, Refused}, Reading.Reading, Device.Device}
+use Rattle.rules.specs.declared.{Refusal.TheVariants.R, Reading.Reading, Device.Device}
+use Rattle.std.specs.Prelude.{Ok, Err}
 
 -- two fresh modules, with this area
 abbrev pub both_fresh : (area : List ℕ) → Whole
@@ -21,10 +22,10 @@ left w (event ∷ events) = left (step w event).after events
 -- R3, and nothing changes: to every call that has room for its answer, to a tick, a power cycle and a reading, of either module
 pub record AllR3 (w : Whole) : Type 0 where
   pub to_calls : (host named revision index : ℕ) (request buffer : List ℕ) → named ≤ 1 → 132 ≤ length buffer
-      → ((step w (call host named revision index request buffer)).reply.verdict ≡ Refused (R 3)) × ((step w (call host named revision index request buffer)).after ≡ w)
-  pub to_ticks : ((step w tick).reply.verdict ≡ Refused (R 3)) × ((step w tick).after ≡ w)
-  pub to_power : (named : ℕ) → named ≤ 1 → ((step w (power named)).reply.verdict ≡ Refused (R 3)) × ((step w (power named)).after ≡ w)
-  pub to_readings : (named : ℕ) (new : Reading) → named ≤ 1 → ((step w (reading named new)).reply.verdict ≡ Refused (R 3)) × ((step w (reading named new)).after ≡ w)
+      → ((step w (call host named revision index request buffer)).reply.verdict ≡ Err (R 3)) × ((step w (call host named revision index request buffer)).after ≡ w)
+  pub to_ticks : ((step w tick).reply.verdict ≡ Err (R 3)) × ((step w tick).after ≡ w)
+  pub to_power : (named : ℕ) → named ≤ 1 → ((step w (power named)).reply.verdict ≡ Err (R 3)) × ((step w (power named)).after ≡ w)
+  pub to_readings : (named : ℕ) (new : Reading) → named ≤ 1 → ((step w (reading named new)).reply.verdict ≡ Err (R 3)) × ((step w (reading named new)).after ≡ w)
 
 pub record TripsWrittenOut : Type 0 where
   -- possible asks for the byte that thresholds and reading give, and for what it asked before, and for nothing else
@@ -40,11 +41,11 @@ pub record TripsWrittenOut : Type 0 where
       → (step w event).after.cabinet.second.trips ≡ trips (step w event).after.cabinet.second.thresholds (step w event).after.cabinet.second.reading
   -- an accepted call of function 1 on a possible record, and after any events from two fresh modules: the byte is the one that thresholds and reading then give
   pub answered : (w : Whole) (host named revision : ℕ) (request buffer : List ℕ) → possible_cabinet w.cabinet ≡ true
-      → (step w (call host named revision 1 request buffer)).reply.verdict ≡ Accepted
+      → (step w (call host named revision 1 request buffer)).reply.verdict ≡ Ok tt
       → (step w (call host named revision 1 request buffer)).answer
       ≡ 0 ∷ 0 ∷ 0 ∷ 0 ∷ health_answer (device_of named w.cabinet).thresholds (device_of named w.cabinet).reading ++ drop 132 buffer
   pub polled : (area : List ℕ) → length area ≡ 16384 → (events : List Event) (host named revision : ℕ) (request buffer : List ℕ)
-      → (step (left (both_fresh area) events) (call host named revision 1 request buffer)).reply.verdict ≡ Accepted
+      → (step (left (both_fresh area) events) (call host named revision 1 request buffer)).reply.verdict ≡ Ok tt
       → (step (left (both_fresh area) events) (call host named revision 1 request buffer)).answer
       ≡ 0 ∷ 0 ∷ 0 ∷ 0 ∷ health_answer (device_of named (left (both_fresh area) events).cabinet).thresholds (device_of named (left (both_fresh area) events).cabinet).reading ++ drop 132 buffer
 

@@ -10,7 +10,9 @@ use Rattle.rules.specs.Bytes.{number_at}
 use Rattle.rules.specs.Record.{Whole}
 use Rattle.rules.specs.Cabinet.{Event, call, tick, power, reading, step}
 use Rattle.rules.specs.Transfers.{Exchange, History, Kind, Started, Sent, Finished, Ticked, Powered, Other}
-use Rattle.rules.specs.declared.{Refusal.TheVariants.{R, Status}, Verdict.Verdict, Verdict.TheVariants.{Accepted, Refused}}
+use Rattle.rules.specs.declared.{Refusal.TheVariants.{R, Status}}
+use Rattle.rules.specs.Refusals.{Verdict}
+use Rattle.std.specs.Prelude.{Ok, Err}
 
 -- What an exchange is to the transfers: a module's accepted call of function 13, 14 or 15, by its bytes; a tick; a module's power cycle; or none of these.
 abbrev pub accepted_as : (named host index : ℕ) (request buffer : List ℕ) → Kind
@@ -21,8 +23,8 @@ accepted_as named host index request buffer =
     else Other
 
 abbrev pub answered_as : Event → Verdict → (buffer : List ℕ) → Kind
-answered_as (call host named revision index request lent) Accepted buffer = accepted_as named host index request buffer
-answered_as (call host named revision index request lent) (Refused refusal) buffer = Other
+answered_as (call host named revision index request lent) (Ok tt) buffer = accepted_as named host index request buffer
+answered_as (call host named revision index request lent) (Err refusal) buffer = Other
 answered_as tick verdict buffer = Ticked
 answered_as (power named) verdict buffer = Powered named
 answered_as (reading named new) verdict buffer = Other
@@ -32,9 +34,9 @@ what x = answered_as x.event x.got.reply.verdict x.got.buffer
 
 -- what remains: accepted calls and readings, ticks and power cycles, and wrong passphrases
 abbrev pub stays : Verdict → Bool
-stays Accepted = true
-stays (Refused (R number)) = false
-stays (Refused (Status status ext)) = status =? 11
+stays (Ok tt) = true
+stays (Err (R number)) = false
+stays (Err (Status status ext)) = status =? 11
 
 abbrev pub remaining : History → History
 remaining [] = []

@@ -7,6 +7,7 @@ ghost use Rattle.rules.specs.Bytes.{splice};
 ghost use Rattle.rules.specs.Refusals.{status_bytes};
 ghost use Rattle.rules.specs.Security.{state_byte, security_state};
 
+use bytes_base::ToBytes;
 use rules::{ATTEMPT_LIMIT, Security};
 
 // Bit 1 enabled, bit 2 locked, bit 3 frozen, bit 4 attempts at 10.
@@ -25,6 +26,6 @@ pub fn put_state(s: Security, answer: &mut [u8])
     ensures { answer.new ≡ splice 0 (status_bytes 0 0 ++ security_state s) answer.old }
 {
     let mut bytes = [0u8; 12];
-    bytes_base::put_at(&mut bytes, 8, 1, state_byte(s) as u64);
+    state_byte(s).put(&mut bytes, 8);
     bytes_base::copy(answer, &bytes);
 }

@@ -1,2 +1,1 @@
-pub mod PhaseName
-pub mod ReasonName
+pub mod Names

@@ -7,6 +7,7 @@ ghost use Rattle.rules.specs.Bytes.{splice};
 ghost use Rattle.rules.specs.Refusals.{status_bytes};
 ghost use Rattle.rules.specs.Thresholds.{GetThreshold, threshold_answer};
 
+use bytes_base::ToBytes;
 use rules::Thresholds;
 
 pub fn put_answer(h: Thresholds, answer: &mut [u8])
@@ -14,9 +15,9 @@ pub fn put_answer(h: Thresholds, answer: &mut [u8])
     ensures { answer.new ≡ splice 0 (status_bytes 0 0 ++ threshold_answer h GetThreshold) answer.old }
 {
     let mut bytes = [0u8; 12];
-    bytes_base::put_at(&mut bytes, 4, 2, h.enable as u64);
-    bytes_base::put_at(&mut bytes, 6, 1, h.spare as u64);
-    bytes_base::put_at(&mut bytes, 7, 2, h.media as u64);
-    bytes_base::put_at(&mut bytes, 9, 2, h.controller as u64);
+    h.enable.put(&mut bytes, 4);
+    h.spare.put(&mut bytes, 6);
+    h.media.put(&mut bytes, 7);
+    h.controller.put(&mut bytes, 9);
     bytes_base::copy(answer, &bytes);
 }

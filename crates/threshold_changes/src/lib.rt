@@ -4,6 +4,7 @@
 ghost use Rattle.std.specs.Prelude.{◌≡◌, length};
 ghost use Rattle.rules.specs.Thresholds.{set_threshold_of, threshold_change};
 
+use bytes_numbers::FromBytes;
 use rules::Thresholds;
 
 // Enable bits 3 to 15 are masked off, the form that the page names: an accepted Set has none of them (T-05). The temperature words are kept bit for bit.
@@ -12,9 +13,9 @@ pub fn set(h: Thresholds, request: &[u8]) -> Thresholds
     ensures { result ≡ threshold_change h (set_threshold_of request.now) }
 {
     Thresholds {
-        enable: bytes_numbers::half(request, 0) & 7,
-        spare: bytes_numbers::byte(request, 2),
-        media: bytes_numbers::half(request, 3),
-        controller: bytes_numbers::half(request, 5),
+        enable: u16::read(request, 0) & 7,
+        spare: u8::read(request, 2),
+        media: u16::read(request, 3),
+        controller: u16::read(request, 5),
     }
 }

@@ -5,6 +5,7 @@ ghost use Rattle.std.specs.Prelude.{◌≡◌, length};
 ghost use Rattle.rules.specs.Refusals.{verdict};
 ghost use Rattle.rules.specs.Thresholds.{set_threshold_of, threshold_checks};
 
+use bytes_numbers::FromBytes;
 use rules::{Refusal, Verdict};
 
 #[tactic(auto, unfolding(rules::specs::Refusals::verdict))]
@@ -12,15 +13,8 @@ pub fn judge_set(request: &[u8]) -> Verdict
     requires { length request.now ≡ 7 }
     ensures { result ≡ verdict (threshold_checks (set_threshold_of request.now)) }
 {
-    let enable = bytes_numbers::half(request, 0);
-    let spare = bytes_numbers::byte(request, 2);
-    let reserved = 7 < enable;
-    let over = 100 < spare;
-    if reserved {
-        return Verdict::Refused(Refusal::Status { status: 3, ext: 0 });
-    }
-    if over {
-        return Verdict::Refused(Refusal::Status { status: 3, ext: 0 });
-    }
-    Verdict::Accepted
+    let enable = u16::read(request, 0);
+    let spare = u8::read(request, 2);
+    Refusal::Status { status: 3, ext: 0 }.when(7 < enable)?;
+    Refusal::Status { status: 3, ext: 0 }.when(100 < spare)
 }

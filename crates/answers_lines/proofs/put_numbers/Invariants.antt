@@ -1,12 +1,9 @@
--- `answers_lines::put_numbers` meets its contract. A line takes at most 40 bytes, a name at most 16, and the buffer keeps its length.
+-- `answers_lines::put_numbers` meets its contract. A number takes at most 20 bytes and its space one, and the buffer keeps its length.
 -- Assumes nothing.
 use mathlib.Core.Path.{◌≡◌}
-use Prim.Native.Nat.{◌+◌, ◌*◌, ◌≤◌, ◌-◌}
+use Prim.Native.Nat.{◌+◌, ◌*◌, ◌≤◌}
 use lib.ListN.{length}
 use Rattle.answers_lines.proofs.put_numbers.Given as goal
 
-abbrev pub invariant-loop-i : goal.invariant-loop-i
-invariant-loop-i l = (l.i ≤ length l.numbers) × (l.to ≤ l.at + 40 * l.i) × (l.from ≤ 16 * l.i) × (length l.out ≡ length l.initial.out)
-
-abbrev pub decreases-loop-i : goal.decreases-loop-i
-decreases-loop-i l = length l.numbers - l.i
+abbrev pub invariant-loop-number : goal.invariant-loop-number
+invariant-loop-number l = (l.to ≤ l.at + 16 + 21 * l.number-index) × (length l.out ≡ length l.initial.out)

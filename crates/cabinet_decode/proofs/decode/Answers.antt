@@ -1,16 +1,14 @@
--- `cabinet_decode::decode` meets its contract. What is a cabinet is read; anything else is the impossible one.
+-- `cabinet_decode::decode` meets its contract. What is a cabinet is read; anything else is the impossible one (proofs/Decoded.antt).
 -- Assumes nothing.
-use mathlib.Core.Path.{◌∙◌, sym}
-use Rattle.cabinet_bytes.{specs.Encoding.decode_cabinet, proofs.Fine.fine}
+use Rattle.cabinet_decode.proofs.Decoded.{was_cabinet, was_none, not_whole}
 use Rattle.cabinet_decode.proofs.decode.Goals as goal
+use Rattle.cabinet_decode.proofs.decode.Goals.{in_default-via-in-Some+else-is_cabinet, in_default-via-in_default}
 
-pub to_cabinet-requires : goal.to_cabinet-requires
-to_cabinet-requires c = (fine _ (sym c.is_cabinet.ensures ∙ c.if-is_cabinet.true)).long
+pub returns-in-Some : goal.returns-in-Some
+returns-in-Some c = was_cabinet c.args.s.now c.in-Some.bytes.now c.in-Some.ensures.cases c.is_cabinet.ensures c.if-is_cabinet.true c.to_cabinet.ensures
 
-pub returns-then-is_cabinet : goal.returns-then-is_cabinet
-unfolding decode_cabinet
-returns-then-is_cabinet c = simp (← c.is_cabinet.ensures, c.if-is_cabinet.true, c.to_cabinet.ensures)
-
-pub returns : goal.returns
-unfolding decode_cabinet
-returns c = simp (← c.is_cabinet.ensures, c.if-is_cabinet.false, c.no_cabinet.ensures)
+pub returns-in_default : goal.returns-in_default
+returns-in_default c = elim c.in_default.branch [
+  | in_default-via-in-Some+else-is_cabinet w ↦ was_none c.args.s.now w.in-Some.bytes.now w.in-Some.ensures.cases w.is_cabinet.ensures w.if-is_cabinet.false c.no_cabinet.ensures
+  | in_default-via-in_default w ↦ not_whole c.args.s.now w.in_default.ensures.cases c.no_cabinet.ensures
+]

@@ -5,4 +5,4 @@ use Rattle.cabinet_decode.proofs.to_cabinet.Goals as goal
 
 pub returns : goal.returns
 unfolding cabinet_of
-returns c = λ i. record { contexts = c.word.ensures i; first = c.decode.ensures i; second = c.decode-2.ensures i }
+returns c = λ i. record { contexts = c.read.ensures i; first = c.decode.ensures i; second = c.decode-2.ensures i }

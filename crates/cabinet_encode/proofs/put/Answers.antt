@@ -6,4 +6,4 @@ use Rattle.cabinet_encode.proofs.put.Goals as goal
 
 pub returns : goal.returns
 returns c =
-    built c.args.c (in_range c.args.c _ c.well_formed.0) c.args.out.now c.requires c.put_at.ensures c.put_at-2.ensures c.put.ensures c.put-2.ensures
+    built c.args.c (in_range c.args.c _ c.well_formed.0) c.args.out.now c.requires c.put.ensures c.put_zeros.ensures c.put-2.ensures c.put-3.ensures

@@ -7,5 +7,5 @@ use Rattle.cabinet_encode.proofs.put_named.Goals as goal
 
 pub returns : goal.returns
 returns c =
-    named_built c.args.named c.args.c (in_range c.args.c _ c.well_formed.0) c.args.out.now c.requires c.put_at.ensures c.place-at.ensures c.own-own.ensures c.put.ensures
+    named_built c.args.named c.args.c (in_range c.args.c _ c.well_formed.0) c.args.out.now c.requires c.put.ensures c.place-at.ensures c.own-own.ensures c.put-2.ensures
     (omega (arith, c.place-at.ensures, inside c.args.named, c.requires.long))

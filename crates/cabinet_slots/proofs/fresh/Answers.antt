@@ -9,4 +9,4 @@ pub returns-clause-slots_after : goal.returns-clause-slots_after
 returns-clause-slots_after c =
     let s = c.args.slots.now in
     let h = c.if-slots-ne577.false in
-    (fresh_whole s h (made s h (c.put.ensures ∙ ap encode_cabinet c.fresh.ensures) c.put_at.ensures)).1
+    (fresh_whole s h (made s h (c.put.ensures ∙ ap encode_cabinet c.fresh.ensures) c.put_zeros.ensures)).1

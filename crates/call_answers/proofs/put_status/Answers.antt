@@ -6,4 +6,4 @@ use Rattle.call_answers.proofs.put_status.Goals as goal
 
 pub returns : goal.returns
 returns c = let a = c.args in
-    status_written a.status a.ext (a.size - 4) a.answer.now c.put_at.ensures c.put_at-2.ensures c.put_at-3.ensures
+    status_written a.status a.ext (a.size - 4) a.answer.now c.put.ensures c.put-2.ensures c.put_zeros.ensures

@@ -21,14 +21,14 @@ as_module area taken e = ap (λ (x : Changed). module_of x.device area x.given t
 pub start-requires : goal.start-requires
 start-requires c =
     let most = c.ranges.given.fits in
-    let told = passed (module_of c.args.d c.args.area.now c.args.given c.requires.acceptable.taken) c.args.revision c.args.request.now c.in-Start.is c.requires.acceptable.passed in
+    let told = passed (module_of c.args.d c.args.area.now c.args.given c.requires.acceptable.taken) c.args.asked.now.revision c.args.asked.now.request.now c.in-Start.is c.requires.acceptable.passed in
     omega (arith, start_left c.args.d.transfer c.args.given c.requires.acceptable.taken told)
 
 pub returns-in-Send : goal.returns-in-Send
 returns-in-Send c = λ taken.
     let a = c.args in
     let m = module_of a.d a.area.now a.given taken in
-    changed m a.revision a.request.now c.in-Send.is
+    changed m a.asked.now.revision a.asked.now.request.now c.in-Send.is
     (let now = c.with_transfer-in-Send.ensures ∙ ap (λ (x : Transfer). changed_to (a.d with_transfer x) a.given) (c.send.ensures.transfer_is a.given) in
     λ i. module_of (now i).device (c.send.ensures.area_is i) (now i).given taken)
 
@@ -36,12 +36,12 @@ pub returns-in-Finish : goal.returns-in-Finish
 returns-in-Finish c = λ taken.
     let a = c.args in
     let m = module_of a.d a.area.now a.given taken in
-    changed m a.revision a.request.now c.in-Finish.is
+    changed m a.asked.now.revision a.asked.now.request.now c.in-Finish.is
     (as_module a.area.now taken (c.with_transfer-in-Finish.ensures ∙ ap (λ (x : Transfer). changed_to (a.d with_transfer x) a.given) (c.finish.ensures a.given)))
 
 pub returns-in-SetPassphrase : goal.returns-in-SetPassphrase
 returns-in-SetPassphrase c = λ taken.
     let a = c.args in
     let m = module_of a.d a.area.now a.given taken in
-    changed m a.revision a.request.now c.in-SetPassphrase.is
-    (as_module a.area.now taken (c.with_security.ensures ∙ ap (λ (x : Security). changed_to (a.d with_security x) a.given) (c.set_passphrase.ensures ∙ ap (set_passphrase_change a.d.security) (rest 32 a.request.now))))
+    changed m a.asked.now.revision a.asked.now.request.now c.in-SetPassphrase.is
+    (as_module a.area.now taken (c.with_security.ensures ∙ ap (λ (x : Security). changed_to (a.d with_security x) a.given) (c.set_passphrase.ensures ∙ ap (set_passphrase_change a.d.security) (rest 32 a.asked.now.request.now))))

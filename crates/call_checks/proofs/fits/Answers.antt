@@ -3,10 +3,10 @@
 use Rattle.rules.specs.Table.{fits?}
 use Rattle.call_checks.proofs.fits.Goals as goal
 
-pub returns-then-more : goal.returns-then-more
+pub returns-in-Exactly : goal.returns-in-Exactly
 unfolding fits?
-returns-then-more c = simp c.if-more.true
+returns-in-Exactly c = simp c.in-Exactly.is
 
-pub returns : goal.returns
+pub returns-in-AtLeast : goal.returns-in-AtLeast
 unfolding fits?
-returns c = simp c.if-more.false
+returns-in-AtLeast c = simp c.in-AtLeast.is

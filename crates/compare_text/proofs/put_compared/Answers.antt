@@ -4,5 +4,6 @@ use Rattle.compare_text.proofs.Laws.{whole}
 use Rattle.compare_text.proofs.put_compared.Goals as goal
 
 pub returns : goal.returns
-returns c = let a = c.args in
-    whole a.leading a.differing a.left a.list.now c.put_number-first.ensures c.put_lines-lines.ensures c.put_number.ensures
+returns c =
+    let told = c.args.compared in
+    whole told.leading told.differing told.left c.args.list.now c.requires.0 c.put_number-first.ensures c.put_lines-lines.ensures c.put_number.ensures

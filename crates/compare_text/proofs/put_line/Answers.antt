@@ -5,4 +5,4 @@ use native.Mathlib.Omega.{arith}
 use Rattle.compare_text.proofs.put_line.Goals as goal
 
 pub returns : goal.returns
-returns c = line c.args.entry (omega (arith, c.requires)) c.put_decimal-number.ensures c.put_first_names-first.ensures c.put_last_names-last.ensures c.put.ensures
+returns c = line c.args.entry (omega (arith, c.requires)) c.put_decimal-number.ensures c.put_names-half.ensures c.put_names-names.ensures c.put.ensures

@@ -3,11 +3,11 @@
 use Rattle.device_decode.proofs.Decoded.{read}
 use Rattle.device_decode.proofs.to_record.Goals as goal
 
--- the numbers, in the order in which they are read: of the thresholds, of the transfer; the two parts; and the trips
+-- the numbers, in the order in which they are read: of the transfer, of the thresholds; the two parts; and the trips
 pub returns : goal.returns
 returns c =
-    read c.args.s.now c.byte.ensures c.phase_of-phase.ensures
-    c.word.ensures c.word-2.ensures c.byte-2.ensures
-    c.long.ensures c.long-2.ensures c.byte-3.ensures c.byte-4.ensures
-    c.half.ensures c.byte-5.ensures c.half-2.ensures c.half-3.ensures
-    c.to_security-security.ensures c.to_reading-reading.ensures c.byte-trips.ensures
+    read c.args.bytes.now c.read.ensures c.phase_of-phase.ensures
+    c.read-2.ensures c.read-3.ensures c.read-4.ensures
+    c.read-5.ensures c.read-6.ensures c.read-7.ensures c.read-8.ensures
+    c.read-9.ensures c.read-10.ensures c.read-11.ensures c.read-12.ensures
+    c.to_security-security.ensures c.to_reading-reading.ensures c.read-trips.ensures

@@ -9,6 +9,6 @@ use Rattle.device_decode.proofs.zero_after.Goals as goal
 
 pub returns : goal.returns
 returns c =
-    let s = c.args.s.now in
-    zero_more 96 24 8 s (zero_more 96 16 8 s (zero_more 96 8 8 s (zero_first 96 8 s c.long.ensures) c.long-2.ensures) c.long-3.ensures) c.long-4.ensures
-    ∙ ap zeros? (take_all 32 (drop 96 s) (rw length-drop (omega (arith, c.requires))))
+    let s = c.args.bytes.now in
+    zero_more 96 24 8 s (zero_more 96 16 8 s (zero_more 96 8 8 s (zero_first 96 8 s c.read.ensures) c.read-2.ensures) c.read-3.ensures) c.read-4.ensures
+    ∙ ap zeros? (take_all 32 (drop 96 s) (rw length-drop (omega arith)))

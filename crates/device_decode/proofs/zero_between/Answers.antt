@@ -6,5 +6,5 @@ use Rattle.device_decode.proofs.zero_between.Goals as goal
 
 pub returns : goal.returns
 returns c =
-    let s = c.args.s.now in
-    overlapped s (zero_more 46 8 8 s (zero_first 46 8 s c.long.ensures) c.long-2.ensures) c.long-3.ensures
+    let s = c.args.bytes.now in
+    overlapped s (zero_more 46 8 8 s (zero_first 46 8 s c.read.ensures) c.read-2.ensures) c.read-3.ensures

@@ -16,5 +16,5 @@ returns c =
     let first : Placed 0 (first_bytes d) old _ = record { inside = omega arith; is = c.put_first.ensures } in
     let numbers = then (encoded_thresholds d.thresholds) (then (transfer_bytes d.transfer) first c.put_transfer.ensures) c.put_thresholds.ensures in
     let fault = then (fault_bytes d.transfer) numbers c.put_fault.ensures in
-    (then (d.security.passphrase ++ zeros 32) (then (zeros 18) (then (reading_bytes d.reading d.trips) fault c.put_reading.ensures) c.put_at.ensures) c.put_passphrase.ensures).is
+    (then (d.security.passphrase ++ zeros 32) (then (zeros 18) (then (reading_bytes d.reading d.trips) fault c.put_reading.ensures) c.put_zeros.ensures) c.put_passphrase.ensures).is
     ∙ copy_whole (encode_of d) old (omega (arith, long d (in_range d _ c.well_formed.0), c.requires))

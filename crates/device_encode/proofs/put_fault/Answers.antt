@@ -8,5 +8,5 @@ use Rattle.device_encode.proofs.put_fault.Goals as goal
 pub returns : goal.returns
 returns c =
     let t = c.args.t in
-    let first : Placed 38 (le 1 t.reason) c.args.out.now _ = record { inside = omega (arith, c.requires); is = c.put_at.ensures } in
-    (then (le 1 t.faulty) first c.put_at-2.ensures).is
+    let first : Placed 38 (le 1 t.reason) c.args.out.now _ = record { inside = omega (arith, c.requires); is = c.put.ensures } in
+    (then (le 1 t.faulty) first c.put-2.ensures).is

@@ -13,4 +13,4 @@ returns c =
     let s = c.args.s in
     let first : Placed 64 s.passphrase c.args.out.now _ = record { inside = omega (arith, c.requires); is = c.copy_at.ensures } in
     let place = ap (λ (n : ℕ). splice (64 + n) (zeros 32) c.copy_at.new.out) (sym (passphrase_long s _ c.well_formed.0)) in
-    (then (zeros 32) first (c.put_at.ensures ∙ place)).is
+    (then (zeros 32) first (c.put_zeros.ensures ∙ place)).is

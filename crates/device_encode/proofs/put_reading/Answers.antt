@@ -8,5 +8,5 @@ use Rattle.device_encode.proofs.put_reading.Goals as goal
 pub returns : goal.returns
 returns c =
     let r = c.args.r in
-    let first : Placed 40 (le 1 r.spare) c.args.out.now _ = record { inside = omega (arith, c.requires); is = c.put_at.ensures } in
-    (then (le 2 r.controller) (then (le 2 r.media) (then (le 1 c.args.trips) first c.put_at-2.ensures) c.put_at-3.ensures) c.put_at-4.ensures).is
+    let first : Placed 40 (le 1 r.spare) c.args.out.now _ = record { inside = omega (arith, c.requires); is = c.put.ensures } in
+    (then (le 2 r.controller) (then (le 2 r.media) (then (le 1 c.args.trips) first c.put-2.ensures) c.put-3.ensures) c.put-4.ensures).is

@@ -9,5 +9,5 @@ use Rattle.device_possible.proofs.all_zero.Goals as goal
 
 pub returns : goal.returns
 returns c = let s = c.args.passphrase.now in
-    zero_more 0 24 8 s (zero_more 0 16 8 s (zero_more 0 8 8 s (zero_first 0 8 s c.long.ensures) c.long-2.ensures) c.long-3.ensures) c.long-4.ensures
-    ∙ ap zeros? (take_all 32 s (omega (arith, c.requires)))
+    zero_more 0 24 8 s (zero_more 0 16 8 s (zero_more 0 8 8 s (zero_first 0 8 s c.read.ensures) c.read-2.ensures) c.read-3.ensures) c.read-4.ensures
+    ∙ ap zeros? (take_all 32 s (omega arith))

@@ -1,18 +1,15 @@
 -- `image_check::first_bad` meets its contract: past each good record the first bad one of those left is that of the whole, and a bad one is it.
-use Rattle.std.proofs.Common.{arith, rules}
-use mathlib.Core.Path.{sym, ◌∙◌}
-use Rattle.image_check.proofs.Laws.{good_record_goes_on, bad_record_decides, no_record_left}
+use Rattle.image_check.proofs.Laws.{is_one, goes_on, ends_here, its_record, none_left}
 use Rattle.image_check.proofs.first_bad.Goals as goal
 
-pub returns-then-not-good : goal.returns-then-not-good
-returns-then-not-good c =
-    let bad = sym c.good_record-good.ensures ∙ c.if-not-good.true in
-    bad_record_decides _ _ _ _ c.loop-i.invariant.1 c.loop-i-test.true bad
+pub returns-then-not-good_record : goal.returns-then-not-good_record
+returns-then-not-good_record c =
+    let left = c.loop-record.invariant in
+    let split = c.in-Some.ensures.cases in
+    (ends_here left split c.if-not-good_record.ensures, is_one left split, its_record left split)
 
-pub loop-i-preserved : goal.loop-i-preserved
-loop-i-preserved c =
-    let good = sym c.good_record-good.ensures ∙ c.if-not-good.false in
-    (search rules, good_record_goes_on _ _ _ _ c.loop-i.invariant.1 c.loop-i-test.true good)
+pub loop-record-preserved : goal.loop-record-preserved
+loop-record-preserved c = goes_on c.loop-record.invariant c.in-Some.ensures.cases c.if-not-good_record.ensures
 
 pub returns : goal.returns
-returns c = no_record_left _ _ _ _ c.loop-i.invariant.1 (omega (arith, c.loop-i.invariant.0, c.loop-i-test.false))
+returns c = none_left c.loop-record.invariant c.in_default.ensures.cases

@@ -7,4 +7,4 @@ use Rattle.image_make.proofs.put_parts.Goals as goal
 
 pub loop-i-preserved : goal.loop-i-preserved
 loop-i-preserved c = let a = c.args in
-    (search rules, search rules, part_behind c.loop-i.i a.image.now a.output.now (omega arith) c.loop-i.invariant.2 c.put_part.ensures)
+    (search rules, part_behind c.loop-i.i a.image.now a.output.now (omega arith) c.loop-i.invariant.1 c.put_part.ensures)

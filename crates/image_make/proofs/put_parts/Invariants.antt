@@ -8,7 +8,4 @@ use Rattle.rules.specs.Made.{carried}
 use Rattle.image_make.proofs.put_parts.Given as goal
 
 abbrev pub invariant-loop-i : goal.invariant-loop-i
-invariant-loop-i l = (l.i ≤ l.n) × (length l.output ≡ length l.initial.output) × (l.output ≡ splice 0 (carried l.i l.image) l.initial.output)
-
-abbrev pub decreases-loop-i : goal.decreases-loop-i
-decreases-loop-i l = l.n - l.i
+invariant-loop-i l = (length l.output ≡ length l.initial.output) × (l.output ≡ splice 0 (carried l.i l.image) l.initial.output)

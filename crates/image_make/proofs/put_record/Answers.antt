@@ -6,5 +6,5 @@ use Rattle.image_make.proofs.put_record.Goals as goal
 pub returns : goal.returns
 returns c = let a = c.args in
     record_written a.i a.n a.version a.part.now a.record.now c.requires.0 c.requires.1
-    c.put_field.ensures c.put_field-2.ensures c.put_field-3.ensures c.put_part.ensures
-    c.sum-sum.ensures c.put_field-4.ensures
+    c.put.ensures c.put-2.ensures c.put-3.ensures c.put_part.ensures
+    c.sum.ensures c.put-4.ensures

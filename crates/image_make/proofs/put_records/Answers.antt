@@ -15,8 +15,7 @@ loop-i-preserved c = let a = c.args in
     let i = c.loop-i.i in
     let filled = part_filled i a.payload.now (omega arith) in (
       search rules,
-      search rules,
       record_lent i (a.first + i) a.n a.version c.loop-i.output _ _ (omega arith) (search rules) c.put_record.ensures
           ∙ ap (λ (part : List ℕ). splice (i * 128) (made_record (a.first + i) a.n a.version part) c.loop-i.output) filled
-          ∙ record_behind i a.first a.n a.version a.payload.now a.output.now c.loop-i.invariant.2,
+          ∙ record_behind i a.first a.n a.version a.payload.now a.output.now c.loop-i.invariant.1,
     )

@@ -8,7 +8,4 @@ use Rattle.rules.specs.Made.{made_records}
 use Rattle.image_make.proofs.put_records.Given as goal
 
 abbrev pub invariant-loop-i : goal.invariant-loop-i
-invariant-loop-i l = (l.i ≤ l.records) × (length l.output ≡ length l.initial.output) × (l.output ≡ splice 0 (made_records l.i l.first l.n l.version l.payload) l.initial.output)
-
-abbrev pub decreases-loop-i : goal.decreases-loop-i
-decreases-loop-i l = l.records - l.i
+invariant-loop-i l = (length l.output ≡ length l.initial.output) × (l.output ≡ splice 0 (made_records l.i l.first l.n l.version l.payload) l.initial.output)

@@ -1,30 +1,19 @@
 -- `images::number_in` meets its contract: what is left of the word gives, behind the number so far, what the whole does.
 -- Assumes nothing.
-use Rattle.std.proofs.Common.{arith, sym, ◌∙◌, eq-eqb, ne_eqb}
-use Rattle.images.proofs.Laws.{fitting, empty_word, goes_on, ends_bad, ends_good}
+use Rattle.std.proofs.Common.{sym, ◌∙◌}
+use Rattle.images.proofs.Laws.{empty_word, full_word, goes_on, no_number, ends}
 use Rattle.images.proofs.number_in.Goals as goal
 
-pub returns-then-empty : goal.returns-then-empty
-returns-then-empty c = empty_word _ (eq-eqb _ _ c.if-empty.true)
+pub returns-then-is_empty : goal.returns-then-is_empty
+returns-then-is_empty c = empty_word _ (sym c.is_empty.ensures ∙ c.if-is_empty.true)
 
-pub returns-then-not-goes_on : goal.returns-then-not-goes_on
-returns-then-not-goes_on c =
-    ends_bad _ _ _ (ne_eqb _ _ c.if-empty.false) c.loop-i.invariant.1 c.loop-i-test.true (sym c.takes-goes_on.ensures ∙ c.if-not-goes_on.true)
+pub returns-in_err-number : goal.returns-in_err-number
+returns-in_err-number c =
+    rw c.from_residual.ensures
+    (no_number _ _ _ c.loop-byte-test.true c.in_err-number.ensures ∙ c.loop-byte.invariant ∙ full_word _ (sym c.is_empty.ensures ∙ c.if-is_empty.false))
 
-pub overflow_mul-number : goal.overflow_mul-number
-overflow_mul-number c = let f = fitting _ _ (sym c.takes-goes_on.ensures ∙ c.if-not-goes_on.false) in omega (arith, f.most)
-
-pub overflow_sub-number : goal.overflow_sub-number
-overflow_sub-number c = let f = fitting _ _ (sym c.takes-goes_on.ensures ∙ c.if-not-goes_on.false) in omega (arith, f.first)
-
-pub overflow_add-number : goal.overflow_add-number
-overflow_add-number c = let f = fitting _ _ (sym c.takes-goes_on.ensures ∙ c.if-not-goes_on.false) in omega (arith, f.most)
-
-pub loop-i-preserved : goal.loop-i-preserved
-loop-i-preserved c = (
-  omega (arith, c.loop-i-test.true),
-  goes_on _ _ _ (ne_eqb _ _ c.if-empty.false) c.loop-i.invariant.1 c.loop-i-test.true (sym c.takes-goes_on.ensures ∙ c.if-not-goes_on.false),
-)
+pub loop-byte-preserved : goal.loop-byte-preserved
+loop-byte-preserved c = goes_on _ _ _ c.loop-byte-test.true c.in_ok-number.ensures ∙ c.loop-byte.invariant
 
 pub returns : goal.returns
-returns c = ends_good _ _ _ (ne_eqb _ _ c.if-empty.false) c.loop-i.invariant.1 c.loop-i-test.false
+returns c = ends _ _ _ c.loop-byte-test.false ∙ c.loop-byte.invariant ∙ full_word _ (sym c.is_empty.ensures ∙ c.if-is_empty.false)

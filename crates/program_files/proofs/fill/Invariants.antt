@@ -1,10 +1,10 @@
--- `program_files::fill` meets its contract. What is filled stays within the buffer, and each turn counts down.
+-- `program_files::fill` meets its contract. What is filled stays within the buffer, and each turn fills more of it.
 -- Assumes nothing.
-use Rattle.std.proofs.Common.{◌≤◌, length, ◌≡◌}
+use Rattle.std.proofs.Common.{◌≤◌, ◌-◌, length, ◌≡◌}
 use Rattle.program_files.proofs.fill.Given as goal
 
-abbrev pub invariant-loop-turns : goal.invariant-loop-turns
-invariant-loop-turns g l = (l.have ≤ length l.initial.buf) × (length l.buf ≡ length l.initial.buf)
+abbrev pub invariant-loop-have : goal.invariant-loop-have
+invariant-loop-have g l = (l.have ≤ length l.initial.buf) × (length l.buf ≡ length l.initial.buf)
 
-abbrev pub decreases-loop-turns : goal.decreases-loop-turns
-decreases-loop-turns g l = l.turns
+abbrev pub decreases-loop-have : goal.decreases-loop-have
+decreases-loop-have g l = length l.buf - l.have

@@ -3,8 +3,8 @@ use Rattle.rules.specs.Record.{whole_of}
 use Rattle.replay_step.proofs.Steps.{as_call, request_within}
 use Rattle.replay_step.proofs.play.Goals as goal
 
-pub slice_bounds-call-end : goal.slice_bounds-call-end
-slice_bounds-call-end c = request_within c.args.bytes.now c.requires.value c.in-Call.is
+pub slice_bounds-request-end : goal.slice_bounds-request-end
+slice_bounds-request-end c = request_within c.args.bytes.now c.requires.value c.in-Call.is
 
 pub returns-in-Call : goal.returns-in-Call
 returns-in-Call c = let a = c.args in

@@ -5,5 +5,5 @@ use Rattle.report_text.proofs.put_count.Goals as goal
 
 pub returns : goal.returns
 returns c = let p1 = c.put-named.ensures in
-    let p2 = c.put_field.ensures in
+    let p2 = rw c.from.ensures at c.put_field.ensures in
     record { within = omega (arith, c.requires, p1.next_is, p2.within); wrote = and_then (omega (arith, c.requires)) p1 p2.wrote }

@@ -1,12 +1,12 @@
 -- Numbers are never given again, by whichever module: no event lowers the contexts given out, and an accepted Start answers the next number.
 -- Assumes nothing.
-use Prim.Native.Nat.{ℕ, ◌+◌, ◌≤◌}
-use mathlib.Core.{Path.{◌≡◌, refl, sym, ◌∙◌, ap, subst}, List.{[], ◌∷◌, ◌++◌}, Bool.{Bool, true, false}}
+use Prim.Native.Nat.{ℕ, ◌≤◌}
+use mathlib.Core.{Path.{◌≡◌, refl, sym, subst}, List.{◌∷◌, ◌++◌}, Bool.{Bool, true, false}}
 use native.Mathlib.Omega.{arith}
 use Rattle.rules.specs.{Record.Whole, History.{Plays, end, All, after_exchange}, Cabinet.Event}
-use Rattle.rules.specs.{Transfers.{machine, Exchange, History, Started, kind_of}, Demand3.{Sound, NeverAgain}}
-use Rattle.rules.proofs.{histories.Joining.{plays_right, all_left, all_right, kept_along}, page.Split.{Seen, seen_from, act}, page.Through.stopped, page.Keeps.more_next}
-use Rattle.rules.proofs.{page.Possible.{sound_next, sound_through, stopped_same}, histories.Gate.{Remains, sound_end}, histories.Order.{StartedAt, started_at}}
+use Rattle.rules.specs.{Transfers.{machine, History}, Demand3.{Sound, NeverAgain}}
+use Rattle.rules.proofs.{histories.Joining.{plays_right, all_right, kept_along}, page.Split.{Seen, seen_from, act}, page.Through.stopped, page.Keeps.more_next}
+use Rattle.rules.proofs.{page.Possible.{sound_next, sound_through, stopped_same}, histories.Gate.{Remains, sound_end}, histories.Order.{started_at}}
 
 -- no event takes a number back
 more_step : (w : Whole) (event : Event) → Sound w → w.cabinet.contexts ≤ (machine.next w event).cabinet.contexts

@@ -1,11 +1,11 @@
 -- Demand 3: the theorem, and what of it holds from every sound cabinet.
 -- Assumes nothing.
-use Prim.Native.Nat.{ℕ, ◌≤◌}
+use Prim.Native.Nat.{ℕ}
 use mathlib.Core.{Path.{◌≡◌, refl, sym, ◌∙◌, ap, subst}, Bool.{Bool, true, false}, List.[]}
 use Rattle.rules.specs.{Tests.◌=?◌, Record.{◌is◌, Whole}, Cabinet.{Event, tick}, History.{history_of, end, All}, Transfers.{machine, History, none}}
 use Rattle.rules.specs.Demand3.{fresh_with, struck, StrikeOut, EachFromOneHost, Stages, Due, StagedExactly, StagedAsSent, Demand3, DemandOfWhatRemains, Sound, FromAnywhere, WithAnyHosts, DemandFromAnywhere, DemandWithAnyHosts}
 use Rattle.rules.specs.declared.Phase.TheVariants.{Verifying}
-use Rattle.rules.proofs.{histories.Joining.plays_log, histories.Struck.strike_out, page.Split.{seen_from, number, part_of}}
+use Rattle.rules.proofs.{histories.Joining.plays_log, histories.Struck.strike_out, page.Split.{seen_from, part_of}}
 use Rattle.rules.proofs.{page.Possible.sound_fresh, histories.Gate.{Remains, sound_end}, histories.Moved.move, histories.Places.at_side}
 use Rattle.rules.proofs.{histories.Unbroken.all_moved, histories.Honest.{all_remains, honest_struck}, histories.Order.{Fits, orders}}
 use Rattle.rules.proofs.{histories.Turn.{one_host, hosts_fresh}, histories.Pieces.{received, own_pieces}}

@@ -5,16 +5,16 @@ use mathlib.Core.{Path.{◌≡◌, refl, sym, ◌∙◌, ap, subst}, Bool.{Bool,
 use native.Mathlib.Omega.{arith}
 use borrow.Author.Tests.{eqb-true, ne_eqb}
 use Rattle.std.specs.Prelude.{if◌then◌else◌}
-use Rattle.rules.specs.{Tests.{◌=?◌}, Numbers.verification, With.{◌with_ticks◌, ◌with_phase◌, ◌with_received◌}, Record.{◌is◌, has_area, Whole}, Fault.image_of, Refusals.refused?}
+use Rattle.rules.specs.{Tests.{◌=?◌}, Numbers.verification, With.{◌with_ticks◌, ◌with_phase◌, ◌with_received◌}, Record.{◌is◌, Whole}, Fault.image_of, Refusals.refused?}
 use Rattle.rules.specs.{Transfer.{TransferCall, GetFwInfo, Start, Send, Finish, Query, received_bytes}, Module.OnTransfer, Cabinet.tick, History.{Plays, end, All, after_exchange}}
 use Rattle.rules.specs.Transfers.{Answer, machine, Exchange, History, Kind, Started, Sent, Finished, Ticked, Other, call_kind, kind_of, Open, none, by, bytes_so_far, ContextIs, InOrder, AllInOrder, open_next}
-use Rattle.rules.specs.{Sends.{own_sends, pieces, FinishedIn, tick_count, ticks_in, power_count, power_cycles}, Demand3.{remains, Sound, Due, received_in}, declared.Phase.Phase}
+use Rattle.rules.specs.{Sends.{own_sends, pieces, FinishedIn, tick_count, ticks_in, power_count, power_cycles}, Demand3.{remains, Sound, Due}, declared.Phase.Phase}
 use Rattle.rules.specs.{declared.Phase.TheVariants.{Idle, Receiving, Verifying}, declared.Transfer.Transfer}
-use Rattle.rules.proofs.histories.Joining.{all_left, all_right, plays_left, plays_right, end_join, counted_along, total_join, leads_join, throughout_left, total_none}
-use Rattle.rules.proofs.page.Split.{Seen, seen_from, number, turned, taken, TransferPart, part_of, Doing, Transfers, Others, Powers, Reads, Act, Mine, Theirs, Ticks, act, part_change, part_next, part_tick, told, does, answers, nexts, doing_kind, act_kind, ◌with_part◌}
+use Rattle.rules.proofs.histories.Joining.{all_right, plays_right, end_join, counted_along, total_join, leads_join, throughout_left, total_none}
+use Rattle.rules.proofs.page.Split.{Seen, seen_from, number, taken, TransferPart, part_of, Doing, Transfers, Others, Powers, Reads, Act, Mine, Theirs, Ticks, act, part_change, part_next, part_tick, told, does, answers, nexts, doing_kind, act_kind, ◌with_part◌}
 use Rattle.rules.proofs.{page.Through.kind_act, page.Facts.{never, Kept, accepted_call, changes, send_ok, finish_ok, Tick, calm, counting, good, bad, tick_case}, page.Keeps.apart}
 use Rattle.rules.proofs.{page.Possible.{Fine, sound_fine, sound_through, sound_next}, histories.Gate.{Remains, Unstopped, unstopped, module_there, inwards, sound_end}, histories.KindOf.{other_number, good_accepted, accepted_good, FinishAct, finished_act}}
-use Rattle.rules.proofs.{histories.Order.{open_at_end, Fits, to_side, Opens, opens, goes, orders, chosen}, histories.Pieces.{received, Opened, opened}}
+use Rattle.rules.proofs.{histories.Order.{open_at_end, Fits, to_side, opens, goes, orders, chosen}, histories.Pieces.{received, Opened, opened}}
 use Rattle.rules.proofs.{histories.Stage.{Ripe, quiet, busy, no_tick}, histories.Moved.its_module, histories.Places.own_number}
 
 abbrev pub bytes_of : TransferPart → List ℕ

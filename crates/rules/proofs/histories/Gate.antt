@@ -3,10 +3,10 @@
 use mathlib.Core.{Path.{◌≡◌, refl, sym, ◌∙◌, ap, subst}, Bool.{Bool, true, false, ◌||◌, false≢true}, List.{[], ◌∷◌}}
 use lib.ListN.{length}
 use borrow.Author.Tests.{eq-eqb}
-use Rattle.rules.specs.{Tests.◌=?◌, Numbers.area_size, Record.Whole, History.{Plays, end, All, Same, after_exchange}, Transfers.{Answer, machine, Exchange, History}, Demand3.{remains, Sound}}
+use Rattle.rules.specs.{Numbers.area_size, Record.Whole, History.{Plays, end, All, Same, after_exchange}, Transfers.{Answer, machine, Exchange, History}, Demand3.{remains, Sound}}
 use Rattle.rules.specs.Demand1.{buffer_too_short, module_over1}
 use Rattle.rules.proofs.{page.Split.{Seen, seen_from, act, inner, TransferPart, part_of}, page.Through.{Through, stopped, shut, over}, page.Facts.Kept}
-use Rattle.rules.proofs.{page.Keeps.apart, page.Possible.{Fine, fine_act, sound_through, sound_next, sound_fine}, page.Choice.or_false, histories.Joining.kept_along, page.Invariant.{Invariant, keeps_next}}
+use Rattle.rules.proofs.{page.Keeps.apart, page.Possible.{Fine, fine_act, sound_through, sound_next}, page.Choice.or_false, histories.Joining.kept_along, page.Invariant.{Invariant, keeps_next}}
 
 -- the exchange remains; nothing stopped it before the record was looked at
 abbrev pub Remains : Exchange → Type 0

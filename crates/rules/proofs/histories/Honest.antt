@@ -5,14 +5,15 @@ use mathlib.Core.{Path.{◌≡◌, refl, sym, ◌∙◌}, Logic.{inl, inr}, Bool
 use native.Mathlib.Omega.{arith}
 use lib.ListN.{length}
 use borrow.Author.Tests.{leb-true, eqb-true, not-false}
-use Rattle.std.specs.Prelude.{if◌then◌else◌}
-use Rattle.rules.specs.{Tests.{◌=?◌, ◌≤?◌}, Refusals.refused?, Table.{table, look_up, row_of, fits?}, Transfer.{GetFwInfo, Start, Send, Finish, Query}}
+use Rattle.rules.specs.{Tests.{◌=?◌, ◌≤?◌}, Refusals.refused?, Table.{table, look_up, row_of, fits?, has_length?, has_length?}, Transfer.{GetFwInfo, Start, Send, Finish, Query}}
 use Rattle.rules.specs.{Module.call_of, Cabinet.call, History.{All, keep}, Transfers.{Exchange, History}}
-use Rattle.rules.specs.{Hosts.{Carries, Uses, AnsweredTo, HonestAfter, Honest}, Demand3.{remains, struck}, declared.Verdict.Verdict}
-use Rattle.rules.specs.{declared.Verdict.TheVariants.{Accepted, Refused}, declared.Row.Row, declared.Function.Function}
+use Rattle.rules.specs.{Hosts.{Carries, Uses, AnsweredTo, HonestAfter, Honest}, Demand3.{remains, struck}}
+use Rattle.rules.specs.{declared.Row.Row, declared.Function.Function, declared.RequestLength.RequestLength, declared.RequestLength.TheVariants.{Exactly, AtLeast}}
 use Rattle.rules.proofs.{page.Choice.{and_true, if_both}, page.Split.{Doing, Transfers, Others, Powers, Reads, doing_of, call_doing, unserved?, misfit?}}
 use Rattle.rules.proofs.{page.Facts.never, histories.KindOf.started_good, histories.Gate.Remains}
 use Rattle.rules.specs.declared.Function.TheVariants as Function'
+use Rattle.rules.specs.Refusals.{Verdict}
+use Rattle.std.specs.Prelude.{Ok, Err}
 
 -- how long a request must be to carry a context
 abbrev needs : Function → ℕ
@@ -32,9 +33,14 @@ needs Function'.Unlock = 0
 needs Function'.Freeze = 0
 needs Function'.Unserved = 0
 
+-- the bytes that a request of this length has at least
+abbrev least : RequestLength → ℕ
+least (Exactly bytes) = bytes
+least (AtLeast bytes) = bytes
+
 -- every row of the table asks for as much
 abbrev enough : Row → Bool
-enough r = needs r.function ≤? r.request
+enough r = needs r.function ≤? least r.request
 
 abbrev all_enough : List (ℕ × Row) → Bool
 all_enough [] = true
@@ -50,13 +56,13 @@ row_enough : (index : ℕ) → enough (row_of index) ≡ true
 unfolding row_of
 row_enough index = look_enough index table refl
 
-long : (r : Row) (request : List ℕ) → fits? r request ≡ true → r.request ≤ length request
+long : (r : Row) (request : List ℕ) → fits? r request ≡ true → least r.request ≤ length request
 unfolding fits?
-long r request e = go r.more e
+long r request e = go r.request e
   where
-    go : (b : Bool) → (if b then r.request ≤? length request else length request =? r.request) ≡ true → r.request ≤ length request
-    go true f = leb-true r.request (length request) f
-    go false f = let q = eqb-true (length request) r.request f in omega arith
+    go : (asked : RequestLength) → has_length? asked request ≡ true → least asked ≤ length request
+    go (AtLeast bytes) f = leb-true bytes (length request) f
+    go (Exactly bytes) f = let q = eqb-true (length request) bytes f in omega arith
 
 -- a served Send's or Finish's context was answered to its host
 abbrev pub UsesDoing : History → Doing → Type 0
@@ -91,7 +97,7 @@ pub uses_doing : (past : History) (host named revision index : ℕ) (request ans
     → ((j context : ℕ) → Uses (call host named revision index request answer) j context → AnsweredTo j context past) → UsesDoing past (call_doing host revision index request answer)
 uses_doing past host named revision index request answer u =
     uses_call past (row_of index).function host revision (row_of index).answer (unserved? revision index) (misfit? index request) request answer
-    (λ e. let l = long (row_of index) request (not-false _ e) in let k = leb-true (needs (row_of index).function) (row_of index).request (row_enough index) in omega arith)
+    (λ e. let l = long (row_of index) request (not-false _ e) in let k = leb-true (needs (row_of index).function) (least (row_of index).request) (row_enough index) in omega arith)
     (λ context k. u host context (refl, k))
 
 -- what remains: it all remains, and it is honest
@@ -112,8 +118,8 @@ both_more past past' x w host context (inl e) = inl e
 both_more past past' x w host context (inr m) = inr (w host context m)
 
 good_remains : (v : Verdict) → refused? v ≡ false → remains v ≡ true
-good_remains Accepted e = refl
-good_remains (Refused refusal) e = never e
+good_remains (Ok tt) e = refl
+good_remains (Err refusal) e = never e
 
 left_more : (past past' : History) (x : Exchange) → remains x.got.reply.verdict ≡ false → Holds past past' → Holds (x ∷ past) past'
 left_more past past' x n w host context (inl e) =

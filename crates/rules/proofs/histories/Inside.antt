@@ -6,15 +6,16 @@ use native.Mathlib.Omega.{arith}
 use borrow.Author.Tests.{eq-eqb}
 use Rattle.rules.specs.{Tests.◌=?◌, Record.{◌is◌, has_area, current}, Transfer.{TransferCall, GetFwInfo, Start, Send, Finish, Query, finish_change}, Cabinet.Event}
 use Rattle.rules.specs.{History.{Plays, end, All, Same}, Transfers.{Answer, Exchange, History, Started, Finished, kind_of}}
-use Rattle.rules.specs.{Sends.{is_send_of, own_send, own_sends, others}, Demand3.remains, declared.Verdict.TheVariants.Accepted, declared.Phase.Phase}
+use Rattle.rules.specs.{Sends.{is_send_of, own_send, own_sends, others}, Demand3.remains, declared.Phase.Phase}
 use Rattle.rules.specs.{declared.Phase.TheVariants.{Receiving, Verifying}, declared.Transfer.Transfer}
 use Rattle.rules.proofs.{page.Choice.{if_both, or_false}, histories.Joining.{all_left, all_right, plays_left, plays_right, same_cons, same_trans}}
 use Rattle.rules.proofs.histories.Swapping.{Either, gather, sink, frees}
 use Rattle.rules.proofs.page.Split.{Seen, number, turned, taken, TransferPart, part_of, Doing, Transfers, Others, Powers, Reads, Act, Mine, Theirs, Ticks, act, part_verdict, part_change, part_answer, told, does, answers, nexts, inner, doing_kind, act_kind, part_power, ◌with_part◌}
-use Rattle.rules.proofs.{page.Through.kind_act, page.Facts.{never, Kept, accepted_call, changes, StartOk, start_ok, send_ok, finish_ok, FinishOk, query_ok, good}}
-use Rattle.rules.proofs.{page.Keeps.{Ok, turn_ok, apart}, page.Possible.{Fine, fine_act}, histories.Gate.{Remains, Unstopped, module_there, keeps_end}}
+use Rattle.rules.proofs.{page.Through.kind_act, page.Facts.{never, Kept, accepted_call, changes, StartOk, start_ok, send_ok, finish_ok, FinishOk, query_ok}}
+use Rattle.rules.proofs.{page.Keeps.{apart}, page.Possible.{Fine, fine_act}, histories.Gate.{Remains, Unstopped, module_there, keeps_end}}
 use Rattle.rules.proofs.histories.KindOf.{good_accepted, accepted_good, StartAct, started_act, FinishAct, finished_act, given_number}
-use Rattle.rules.proofs.{histories.Swap.{OwnAct, FreeAct, Own, Free, swaps, still_both, info_next}, page.Invariant.{Invariant, Apart, by_tick}}
+use Rattle.rules.proofs.{histories.Swap.{OwnAct, FreeAct, Own, Free, swaps, still_both, info_next}, page.Invariant.{Invariant, by_tick}}
+use Rattle.std.specs.Prelude.{Ok}
 
 -- The transfer with the context c is over in the module: no event brings it back
 pub record Gone (c : ℕ) (s : TransferPart) : Type 0 where
@@ -43,7 +44,7 @@ gone c =
       };
     }
   where
-    change : (k : Bool) (s : TransferPart) (a b : Bool) (x : TransferCall) → part_verdict k s a b x ≡ Accepted → Gone c s → Gone c (part_change s x)
+    change : (k : Bool) (s : TransferPart) (a b : Bool) (x : TransferCall) → part_verdict k s a b x ≡ Ok tt → Gone c s → Gone c (part_change s x)
     change k s a b GetFwInfo v g = g
     change k s a b Start v g = record { old = omega (arith, g.old); other = λ r e. omega (arith, g.old) }
     change k s a b (Send context offset size piece) v g = record { old = g.old; other = g.other }
@@ -189,7 +190,7 @@ begun first s x host context w u k p = go
     q : part_answer (taken s) (part_of s) f.unserved f.misfit Start f.n f.answer ≡ x.got
     q = subst (λ (z : Act). answers s z ≡ x.got) f.act_is p
 
-    v : part_verdict (taken s) (part_of s) f.unserved f.misfit Start ≡ Accepted
+    v : part_verdict (taken s) (part_of s) f.unserved f.misfit Start ≡ Ok tt
     v = good_accepted (taken s) (part_of s) f.unserved f.misfit Start f.n f.answer x.got q f.good
 
     e : part_of ((inner first).next s x.event) ≡ part_change (part_of s) Start

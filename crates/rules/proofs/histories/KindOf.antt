@@ -7,9 +7,10 @@ use Rattle.std.specs.Prelude.{if◌then◌else◌}
 use Rattle.rules.specs.{Tests.{◌<?◌}, Module.call_in, Cabinet.{Event, call, tick, power, reading}, Demand1.module_over1, Bytes.{le, number_at}, Table.row_of, Numbers.last_context, Refusals.{refused?, status_bytes, answer_after}}
 use Rattle.rules.specs.Transfer.{TransferCall, GetFwInfo, Start, Send, Finish, Query, transfer_answer}
 use Rattle.rules.specs.{Transfers.{Answer, Exchange, kind_of, event_kind, Kind, Started, Sent, Finished, Ticked, Powered, Other}, declared.Refusal.TheVariants.{R, Status}}
-use Rattle.rules.specs.{declared.Verdict.Verdict, declared.Verdict.TheVariants.{Accepted, Refused}}
 use Rattle.rules.proofs.page.Split.{number, TransferPart, call_doing, unserved?, misfit?, Doing, Transfers, Others, Powers, Reads, Act, Mine, Theirs, Ticks, answer_by, part_verdict, part_answer, doing_kind, act_kind}
 use Rattle.rules.proofs.{page.Facts.{never, replies, start_ok}, page.Through.kind_call}
+use Rattle.rules.specs.Refusals.{Verdict}
+use Rattle.std.specs.Prelude.{Ok, Err}
 
 -- the answer is no refusal
 abbrev pub GoodAnswer : Answer → Type 0
@@ -20,17 +21,17 @@ accepted_kind : (b : Bool) (k l : Kind) → (Other ≡ l → ⊥) → (if b then
 accepted_kind true k l n e = absurd (n e)
 accepted_kind false k l n e = (refl, e)
 
-accepted_by : (v : Verdict) (n : ℕ) (bytes answer : List ℕ) → GoodAnswer (answer_by v n bytes answer) → v ≡ Accepted
-accepted_by Accepted n bytes answer e = refl
-accepted_by (Refused (R number)) n bytes answer e = never e
-accepted_by (Refused (Status status ext)) n bytes answer e = never e
+accepted_by : (v : Verdict) (n : ℕ) (bytes answer : List ℕ) → GoodAnswer (answer_by v n bytes answer) → v ≡ Ok tt
+accepted_by (Ok tt) n bytes answer e = refl
+accepted_by (Err (R number)) n bytes answer e = never e
+accepted_by (Err (Status status ext)) n bytes answer e = never e
 
 -- where the answer is no refusal the call was accepted, and the other way round
-pub good_accepted : (k : Bool) (s : TransferPart) (a b : Bool) (x : TransferCall) (n : ℕ) (answer : List ℕ) (got : Answer) → part_answer k s a b x n answer ≡ got → GoodAnswer got → part_verdict k s a b x ≡ Accepted
+pub good_accepted : (k : Bool) (s : TransferPart) (a b : Bool) (x : TransferCall) (n : ℕ) (answer : List ℕ) (got : Answer) → part_answer k s a b x n answer ≡ got → GoodAnswer got → part_verdict k s a b x ≡ Ok tt
 good_accepted k s a b x n answer got p g =
     accepted_by (part_verdict k s a b x) n (status_bytes 0 0 ++ transfer_answer s.transfer s.given x) answer (ap (λ (z : Answer). refused? z.reply.verdict) p ∙ g)
 
-pub accepted_good : (k : Bool) (s : TransferPart) (a b : Bool) (x : TransferCall) (n : ℕ) (answer : List ℕ) (got : Answer) → part_answer k s a b x n answer ≡ got → part_verdict k s a b x ≡ Accepted → GoodAnswer got
+pub accepted_good : (k : Bool) (s : TransferPart) (a b : Bool) (x : TransferCall) (n : ℕ) (answer : List ℕ) (got : Answer) → part_answer k s a b x n answer ≡ got → part_verdict k s a b x ≡ Ok tt → GoodAnswer got
 accepted_good k s a b x n answer got p v = ap (λ (z : Answer). refused? z.reply.verdict) (sym p ∙ replies k s a b x n answer v)
 
 -- no Start
@@ -188,7 +189,7 @@ started_good x named host context k = go x.event k
 carries_back : (n : ℕ) (answer : List ℕ) → n ≤ last_context → number_at 4 4 (answer_after (status_bytes 0 0 ++ le 4 n) answer) ≡ n
 carries_back n answer l = omega arith
 
-pub given_number : (k : Bool) (s : TransferPart) (a b : Bool) (n : ℕ) (answer : List ℕ) (got : Answer) → part_answer k s a b Start n answer ≡ got → part_verdict k s a b Start ≡ Accepted
+pub given_number : (k : Bool) (s : TransferPart) (a b : Bool) (n : ℕ) (answer : List ℕ) (got : Answer) → part_answer k s a b Start n answer ≡ got → part_verdict k s a b Start ≡ Ok tt
     → s.given ≤ last_context → number_at 4 4 got.buffer ≡ s.given + 1
 given_number k s a b n answer got p v l =
     let o = (start_ok k s a b v).left in

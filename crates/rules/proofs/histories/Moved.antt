@@ -1,12 +1,11 @@
 -- The move, from every sound cabinet, for every finished transfer of what remains; and for all of them at once.
 -- Assumes nothing.
-use Prim.Native.Nat.{ℕ, ◌≤◌}
-use mathlib.Core.{Path.{◌≡◌, refl, sym, ◌∙◌, ap, subst}, Logic.{◌⊎◌, inl, inr}, Bool.{Bool, true, false, not, false≢true}, List.{[], ◌∷◌, ◌++◌}}
-use borrow.Author.Tests.{ltb-false}
-use Rattle.rules.specs.{Tests.{◌=?◌, ◌<?◌}, Transfer.{GetFwInfo, Start, Send, Finish, Query}, Record.Whole, History.{Plays, end, All, Same}}
+use Prim.Native.Nat.{ℕ}
+use mathlib.Core.{Path.{◌≡◌, refl, sym, ◌∙◌, ap, subst}, Logic.{inl, inr}, Bool.{Bool, true, false, not, false≢true}, List.{[], ◌∷◌, ◌++◌}}
+use Rattle.rules.specs.{Tests.{◌=?◌}, Transfer.{GetFwInfo, Start, Send, Finish, Query}, Record.Whole, History.{Plays, end, All, Same}}
 use Rattle.rules.specs.Transfers.{Answer, machine, Exchange, History, Kind, Started, Sent, Finished, Ticked, Powered, Other, kind_of}
 use Rattle.rules.specs.{Sends.{is_send_of, own_send, own_sends, others, FinishedIn}, Moves.{moved, ByMoves, as_it_is, one_more, is_finish_of, its_finish}}
-use Rattle.rules.specs.{Demand3.{Sound, Move}, Demand1.module_over1}
+use Rattle.rules.specs.{Demand3.{Sound, Move}}
 use Rattle.rules.proofs.histories.Joining.{all_left, all_right, all_join, all_only, all_except, plays_left, plays_right, same_under}
 use Rattle.rules.proofs.{page.Split.{Seen, seen_from, number, Doing, Transfers, Others, Powers, Reads, Act, Mine, Theirs, Ticks, act, inner, doing_kind, act_kind}, page.Through.{kind_act, side_named}}
 use Rattle.rules.proofs.{page.Possible.{Fine, sound_fine}, histories.Gate.{Remains, Unstopped, module_there, Inward, inwards, fine_end, same_outward}, histories.Swap.{FreeDoing, BesideDoing, FreeAct, Free}}

@@ -1,18 +1,18 @@
 -- One after another, in both modules together, whoever calls: which transfer is open, as the history tells it, is what the record says, and its bytes are those received.
 -- Assumes nothing.
 use Prim.Native.Nat.{ℕ, ◌+◌, ◌≤◌}
-use mathlib.Core.{Path.{◌≡◌, refl, sym, ◌∙◌, ap, subst}, Bool.{Bool, true, false, not, ◌&&◌, ◌||◌}, List.{[], List, ◌∷◌, ◌++◌, append_assoc}}
+use mathlib.Core.{Path.{◌≡◌, refl, sym, ◌∙◌, ap, subst}, Bool.{Bool, true, false, not}, List.{[], List, ◌∷◌, ◌++◌, append_assoc}}
 use native.Mathlib.Omega.{arith}
 use lib.{ListN.{length, take, drop, length-append, length-take}, Seq.take_at}
 use borrow.Author.Tests.{eqb-true, eqb-false, eq-eqb, ne_eqb, not-true, not-false}
 use Rattle.std.specs.Prelude.{if◌then◌else◌}
-use Rattle.rules.specs.{Tests.{◌=?◌, ◌<?◌}, Bytes.{number_at, splice}, Numbers.area_size, Record.{◌is◌, has_area, current, Whole}, Refusals.refused?, Table.row_of}
+use Rattle.rules.specs.{Tests.{◌=?◌, ◌<?◌}, Bytes.{number_at, splice}, Numbers.area_size, Record.{◌is◌, current, Whole}, Refusals.refused?, Table.row_of}
 use Rattle.rules.specs.{Transfer.{TransferCall, GetFwInfo, Start, Send, Finish, Query, received_bytes}, Module.call_in, Cabinet.{Event, call, tick, power, reading}, History.{Plays, end, All, leads_to}}
-use Rattle.rules.specs.Transfers.{Answer, machine, Exchange, History, Kind, Started, Sent, Finished, Ticked, Powered, Other, kind_of, event_kind, Open, none, by, bytes_so_far, with_piece, after_power, open_after, ContextIs, InOrder, AllInOrder, open_next}
+use Rattle.rules.specs.Transfers.{Answer, machine, Exchange, History, Kind, Started, Sent, Finished, Ticked, Powered, Other, kind_of, event_kind, Open, none, by, after_power, open_after, InOrder, AllInOrder, open_next}
 use Rattle.rules.specs.{Hosts.{Uses, AnsweredTo}, Demand1.buffer_too_short, Demand3.{remains, Sound}, declared.Phase.Phase, declared.Phase.TheVariants.{Receiving, Verifying}}
 use Rattle.rules.specs.declared.Transfer.{Transfer}
 use Rattle.rules.proofs.page.Choice.{if_both, or_false}
-use Rattle.rules.proofs.page.Split.{Seen, seen_from, number, turned, taken, TransferPart, part_of, ◌with_its_part◌, Doing, Transfers, Others, Powers, Reads, Act, Mine, Theirs, Ticks, mine?, toward, doing_of, call_doing, act, unserved?, misfit?, part_change, part_next, part_tick, told, does, answers, nexts, inner, doing_kind}
+use Rattle.rules.proofs.page.Split.{Seen, seen_from, number, turned, taken, TransferPart, part_of, ◌with_its_part◌, Doing, Transfers, Others, Powers, Reads, Mine, Ticks, mine?, toward, call_doing, act, unserved?, misfit?, part_change, part_tick, told, does, answers, nexts, doing_kind}
 use Rattle.rules.proofs.{page.Through.{Through, stopped, kind_call, side_named}, page.Facts.{never, is_phase, Kept, accepted_call, changes, was_served, StartOk, start_ok, SendOk, send_ok, finish_ok}, page.Possible.{Fine, sound_fine, sound_through, sound_next}}
 use Rattle.rules.proofs.{histories.Gate.{Remains, unstopped, module_there}, histories.KindOf.{accepted_good, started_named, NoStart, given_number}, histories.Swap.{still, info_next, query_next}, histories.Inside.{begun, not_two}}
 use Rattle.rules.proofs.{histories.Honest.{UsesDoing, uses_doing}, histories.Places.own_act, page.Invariant.by_tick}

@@ -3,12 +3,12 @@
 use Prim.Native.Nat.{ℕ}
 use mathlib.Core.{Path.{◌≡◌, refl, sym, ◌∙◌, ap, subst}, Logic.{◌⊎◌, inl, inr}, Bool.{Bool, true, false, false≢true}, List.{[], List, ◌∷◌, ◌++◌, append_assoc, append-nil}}
 use native.Mathlib.Omega.{arith}
-use borrow.Author.Tests.{eq-eqb, ne_eqb, eqb-true}
+use borrow.Author.Tests.{eq-eqb, ne_eqb}
 use Rattle.std.specs.Prelude.{if◌then◌else◌}
-use Rattle.rules.specs.{Tests.{◌=?◌}, Transfer.received_bytes, Record.Whole, History.{Plays, end, All, keep}}
+use Rattle.rules.specs.{Tests.{◌=?◌}, Record.Whole, History.{Plays, end, All, keep}}
 use Rattle.rules.specs.Transfers.{machine, Exchange, History, Kind, Started, Sent, Finished, Ticked, Powered, Other, kind_of, Open, none, by, bytes_so_far, after_power, open_after, InOrder, AllInOrder, ByStarter, AllByStarter, open_next}
 use Rattle.rules.specs.{Sends.{is_send_of, own_sends, piece_of, pieces, SentBy, FinishedIn}, Demand3.{Sound, Received, OwnPieces}}
-use Rattle.rules.proofs.{histories.Joining.{all_left, all_right, plays_left, plays_right, leads_join, throughout_left, throughout_right}, page.Split.{seen_from, number, part_of}, page.Possible.{sound_fine, sound_through}}
+use Rattle.rules.proofs.{histories.Joining.{all_left, all_right, plays_left, plays_right, leads_join, throughout_left, throughout_right}, page.Split.{seen_from, number}, page.Possible.{sound_fine, sound_through}}
 use Rattle.rules.proofs.{histories.Gate.{Remains, Unstopped, unstopped, inwards, sound_end}, histories.Inside.{Within, finish_at}, histories.Moved.{between_within, its_module, finishes_seen, Moving, as_tick, as_other, as_power, free_of}}
 use Rattle.rules.proofs.histories.Order.{open_at_end, Fits, to_side, Opens, opens, fits_at}
 

@@ -2,11 +2,10 @@
 -- Assumes nothing.
 use Prim.Native.Nat.{ℕ, ◌≤◌}
 use mathlib.Core.{Path.{◌≡◌, refl, ap}, Bool.{Bool, true, false, not}}
-use native.Mathlib.Omega.{arith}
 use borrow.Author.Tests.{le-ltb}
 use Rattle.std.specs.Prelude.{if◌then◌else◌}
 use Rattle.rules.specs.{Tests.{◌=?◌, ◌<?◌}, Transfers.Powered, Sends.power_count}
-use Rattle.rules.proofs.{page.Split.{number, mine?, toward, Doing, Act, Mine}, page.Through.side_named}
+use Rattle.rules.proofs.{page.Split.{number, mine?, toward, Doing, Mine}, page.Through.side_named}
 
 -- a module of number 0 or 1 is there
 pub at_number : (named : ℕ) → named ≤ 1 → (1 <? named) ≡ false

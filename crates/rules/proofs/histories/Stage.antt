@@ -1,7 +1,7 @@
 -- What stages an image in a module: only a tick, the eighth after a good image's Finish; and Staged stays until a power cycle of that module. All is seen from the module.
 -- Assumes nothing.
 use Prim.Native.Nat.{ℕ, zero, suc, ◌≤◌}
-use mathlib.Core.{Path.{◌≡◌, refl, sym, ◌∙◌, ap, subst}, Logic.{◌⊎◌, inl, inr}, Bool.{Bool, true, false, ◌||◌, ◌&&◌}, List.{List, ◌∷◌}}
+use mathlib.Core.{Path.{◌≡◌, refl, sym, ◌∙◌, ap}, Logic.{◌⊎◌, inl, inr}, Bool.{Bool, true, false, ◌||◌, ◌&&◌}, List.{◌∷◌}}
 use native.Mathlib.Omega.{arith}
 use borrow.Author.Tests.{eqb-true, eq-eqb}
 use Rattle.std.specs.Prelude.{if◌then◌else◌}
@@ -10,19 +10,21 @@ use Rattle.rules.specs.Transfer.{TransferCall, GetFwInfo, Start, Send, Finish, Q
 use Rattle.rules.specs.{Module.OnTransfer, Cabinet.{Event, call, tick, power, reading}, History.{end, after_exchange}}
 use Rattle.rules.specs.Transfers.{Answer, machine, Exchange, History, Kind, Started, Sent, Finished, Other, call_kind, kind_of}
 use Rattle.rules.specs.{Sends.{tick_count, power_count, power_cycles}, Demand3.{Sound, staged_with, Stages, StagedOnce}}
-use Rattle.rules.specs.{declared.Image.TheVariants.{Good, Bad}, declared.Phase.Phase, declared.Phase.TheVariants.{Receiving, Verifying, Staged}}
-use Rattle.rules.specs.{declared.Transfer.Transfer, declared.Device.Device, declared.Verdict.TheVariants.Accepted, Beside.TakenOver}
+use Rattle.rules.specs.{declared.Phase.Phase, declared.Phase.TheVariants.{Receiving, Verifying, Staged}}
+use Rattle.rules.specs.{declared.Transfer.Transfer, declared.Device.Device, Beside.TakenOver}
 use Rattle.rules.proofs.{page.Choice.{if_both, and_true}, histories.Joining.{end_join, counted_along, total_none}}
 use Rattle.rules.proofs.page.Split.{Seen, seen_from, number, turned, taken, TransferPart, part_of, Doing, Transfers, Others, Powers, Reads, Act, Mine, Theirs, Ticks, toward, act, mine?, call_doing, part_verdict, part_change, part_next, part_tick, does, nexts, act_kind}
 use Rattle.rules.proofs.{page.Through.{kind_act, stopped}, page.Facts.{never, is_phase, start_ok, send_ok, finish_ok, Tick, calm, counting, good, bad, tick_case}}
-use Rattle.rules.proofs.{page.Invariant.part_when, page.Keeps.other_does, page.Possible.{stopped_same, sound_through, sound_next}, histories.Swap.{still_device}, histories.Gate.{Unstopped, module_there, sound_end}}
+use Rattle.rules.proofs.{page.Invariant.part_when, page.Keeps.other_does, page.Possible.{stopped_same, sound_through, sound_next}, histories.Swap.{still_device}, histories.Gate.{module_there, sound_end}}
 use Rattle.rules.proofs.histories.Places.{at_number, at_side, own_number, own_act}
+use Rattle.std.specs.Prelude.{Ok}
+use Rattle.rules.specs.Fault.{bad_image}
 
 -- the next tick stages the version
 pub record Ripe (s : TransferPart) (version : ℕ) : Type 0 where
   pub at : s.transfer.phase ≡ Verifying
   pub last : s.transfer.ticks ≤ 1
-  pub good_image_law : image_of (received_bytes s.transfer s.area) ≡ Good version
+  pub good_image_law : image_of (received_bytes s.transfer s.area) ≡ Ok version
 
 -- Verifying and Staged: no transfer call of the module changes anything
 abbrev pub busy : Phase → Bool
@@ -34,7 +36,7 @@ busy_not p b e = never (sym b ∙ ap busy e)
 busy_start : (p : Phase) → busy p ≡ true → (p is Verifying) ≡ false → (p is Staged) ≡ false → ⊥
 busy_start p b v s = never (sym b ∙ rw (v, s))
 
-quiet_change : (k : Bool) (s : TransferPart) (a b : Bool) (x : TransferCall) → busy s.transfer.phase ≡ true → part_verdict k s a b x ≡ Accepted → part_change s x ≡ s
+quiet_change : (k : Bool) (s : TransferPart) (a b : Bool) (x : TransferCall) → busy s.transfer.phase ≡ true → part_verdict k s a b x ≡ Ok tt → part_change s x ≡ s
 quiet_change k s a b GetFwInfo w v = refl
 quiet_change k s a b Start w v = let o = start_ok k s a b v in absurd (busy_start s.transfer.phase w o.not_verifying o.not_staged)
 quiet_change k s a b (Send context offset size piece) w v = absurd (busy_not s.transfer.phase w (send_ok k s a b context offset size piece v).at)
@@ -62,7 +64,7 @@ not_by_doing s (Reads new) w = w
 tick_ripe : (s : TransferPart) (version : ℕ) → Tick s.transfer s.area → (s.transfer.phase is Staged) ≡ false → (part_tick s).transfer.phase ≡ Staged → (part_tick s).transfer.staged ≡ version → Ripe s version
 tick_ripe s version (calm n e) w p v = never (sym (ap (λ (q : Phase). q is Staged) p) ∙ ap (λ (t : Transfer). t.phase is Staged) e ∙ w)
 tick_ripe s version (counting q l e) w p v = never (sym (ap (λ (z : Phase). z is Staged) p) ∙ ap (λ (t : Transfer). t.phase is Staged) e ∙ w)
-tick_ripe s version (good found q l i e) w p v = record { at = q; last = l; good_image_law = i ∙ ap Good (sym (ap (λ (t : Transfer). t.staged) e) ∙ v) }
+tick_ripe s version (good found q l i e) w p v = record { at = q; last = l; good_image_law = i ∙ ap Ok (sym (ap (λ (t : Transfer). t.staged) e) ∙ v) }
 tick_ripe s version (bad q l i e) w p v = never (sym (ap (λ (z : Phase). z is Staged) p) ∙ ap (λ (t : Transfer). t.phase is Staged) e)
 
 stages_act : (s : Seen) (f : Act) (version : ℕ) → (s.own.transfer.phase is Staged) ≡ false → (nexts s f).own.transfer.phase ≡ Staged → (nexts s f).own.transfer.staged ≡ version
@@ -154,11 +156,11 @@ tick_good : (s : TransferPart) (version : ℕ) → Ripe s version → Tick s.tra
 tick_good s version r (calm n e) = never (sym (ap (λ (z : Phase). z is Verifying) r.at) ∙ n)
 tick_good s version r (counting p l e) = absurd (omega (arith, r.last))
 tick_good s version r (good found p l i e) =
-    let same : Good found ≡ Good version = sym i ∙ r.good_image_law in
+    let same : Ok found ≡ Ok version = sym i ∙ r.good_image_law in
     let v : found ≡ version = cc in
     (ap (λ (t : Transfer). t.phase) e, ap (λ (t : Transfer). t.staged) e ∙ v)
 tick_good s version r (bad {reason} {k} p l i e) =
-    let same : Bad reason k ≡ Good version = sym i ∙ r.good_image_law in
+    let same : bad_image reason k ≡ Ok version = sym i ∙ r.good_image_law in
     let z : ◌≡◌ {A = ℕ} 0 1 = cc in absurd (omega arith)
 
 pub ripe_stages : (named : ℕ) (w : Whole) (version : ℕ) → Sound w → Ripe (part_of (seen_from (named =? 0) w)) version → Stages named w tick version

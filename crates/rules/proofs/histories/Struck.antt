@@ -5,18 +5,19 @@ use mathlib.Core.{Path.{◌≡◌, refl}, Bool.{false, true≢false}, List.List}
 use Rattle.rules.specs.{Refusals.{verdict, tick_checks, event_checks}, Table.row_of, Record.Whole}
 use Rattle.rules.specs.{Module.{Call, call_in}, Cabinet.{Event, call, tick, power, reading, outcome, ticked, powered, kept, happened, call_checks, reading_checks, call_result, tick_result, power_result, reading_result, step}}
 use Rattle.rules.specs.{History.Plays, Transfers.{Answer, machine, History}, Demand3.{remains, StrikeOut}, declared.Refusal.TheVariants.{R, Status}}
-use Rattle.rules.specs.{declared.Verdict.Verdict, declared.Verdict.TheVariants.{Accepted, Refused}}
 use Rattle.rules.proofs.histories.Swapping.{strike}
+use Rattle.rules.specs.Refusals.{Verdict}
+use Rattle.std.specs.Prelude.{Ok, Err}
 
 outcome_leaves : (v : Verdict) (w : Whole) (named : ℕ) (c : Call) (n : ℕ) (answer : List ℕ) → remains (outcome v w named c n answer).reply.verdict ≡ false
     → (outcome v w named c n answer).after ≡ w
-outcome_leaves Accepted w named c n answer e = absurd (true≢false e)
-outcome_leaves (Refused (R number)) w named c n answer e = refl
-outcome_leaves (Refused (Status status ext)) w named c n answer e = rw e
+outcome_leaves (Ok tt) w named c n answer e = absurd (true≢false e)
+outcome_leaves (Err (R number)) w named c n answer e = refl
+outcome_leaves (Err (Status status ext)) w named c n answer e = rw e
 
 happened_leaves : (v : Verdict) (changed was : Whole) → remains (happened v changed was).reply.verdict ≡ false → (happened v changed was).after ≡ was
-happened_leaves Accepted changed was e = absurd (true≢false e)
-happened_leaves (Refused refusal) changed was e = refl
+happened_leaves (Ok tt) changed was e = absurd (true≢false e)
+happened_leaves (Err refusal) changed was e = refl
 
 pub leaves : (w : Whole) (event : Event) → remains (step w event).reply.verdict ≡ false → (step w event).after ≡ w
 unfolding call_result tick_result power_result reading_result

@@ -2,12 +2,14 @@
 -- the other module that leaves the area and the numbers.
 -- Assumes nothing.
 use Prim.Native.Nat.{ℕ}
-use mathlib.Core.{Path.{◌≡◌, refl, sym, ◌∙◌, ap, subst}, Bool.{Bool, true, false, ◌&&◌, ◌||◌}, List.List}
-use Rattle.rules.specs.{Record.{◌is◌, has_area}, With.◌with_transfer◌, Refusals.verdict, Transfer.{TransferCall, GetFwInfo, Start, Send, Finish, Query, transfer_checks}, Module.device_ticked, Transfers.{Answer, Exchange}}
-use Rattle.rules.specs.{Demand3.remains, declared.Verdict.Verdict, declared.Verdict.TheVariants.{Accepted, Refused}, declared.Phase.Phase}
+use mathlib.Core.{Path.{◌≡◌, refl, sym, ◌∙◌, ap, subst}, Bool.{Bool, false, ◌&&◌, ◌||◌}, List.List}
+use Rattle.rules.specs.{Record.{◌is◌, has_area}, With.◌with_transfer◌, Transfer.{TransferCall, GetFwInfo, Start, Send, Finish, Query}, Module.device_ticked, Transfers.{Answer, Exchange}}
+use Rattle.rules.specs.{Demand3.remains, declared.Phase.Phase}
 use Rattle.rules.specs.{declared.Phase.TheVariants.{Receiving, Verifying}, declared.Transfer.Transfer, declared.Device.Device}
-use Rattle.rules.proofs.page.Split.{Seen, turned, taken, TransferPart, ◌with_part◌, part_of, rest_of, ◌with_its_part◌, Doing, Transfers, Others, Powers, Reads, Act, Mine, Theirs, Ticks, act, front, part_verdict, part_after, part_answer, part_next, part_tick, told, does, answers, nexts, inner}
-use Rattle.rules.proofs.{page.Facts.{never, Kept, accepted_call, changes, start_ok, send_ok, Tick, calm, counting, good, bad, tick_case}, page.Choice.or_false, page.Keeps.Ok, page.Possible.Fine, histories.Swapping.Swaps}
+use Rattle.rules.proofs.page.Split.{Seen, turned, taken, TransferPart, ◌with_part◌, part_of, ◌with_its_part◌, Doing, Transfers, Others, Powers, Reads, Act, Mine, Theirs, Ticks, act, part_verdict, part_after, part_answer, part_next, part_tick, does, answers, nexts, inner}
+use Rattle.rules.proofs.{page.Facts.{never, Kept, accepted_call, changes, start_ok, send_ok, Tick, calm, counting, good, bad, tick_case}, page.Choice.or_false, page.Possible.Fine, histories.Swapping.Swaps}
+use Rattle.rules.specs.Refusals.{Verdict}
+use Rattle.std.specs.Prelude.{Ok, Err}
 
 -- a Start or a Send
 abbrev pub OwnCall : TransferCall → Type 0
@@ -69,7 +71,7 @@ pub record OwnOk (k : Bool) (p : TransferPart) (a b : Bool) (x : TransferCall) :
   pub before : (p.transfer.phase is Verifying) ≡ false
   pub free : k ≡ false
 
-own_ok : (k : Bool) (p : TransferPart) (a b : Bool) (x : TransferCall) → OwnCall x → (has_area p.transfer && k) ≡ false → part_verdict k p a b x ≡ Accepted → OwnOk k p a b x
+own_ok : (k : Bool) (p : TransferPart) (a b : Bool) (x : TransferCall) → OwnCall x → (has_area p.transfer && k) ≡ false → part_verdict k p a b x ≡ Ok tt → OwnOk k p a b x
 own_ok k p a b GetFwInfo o i v = absurd o
 own_ok k p a b Start o i v =
     let e = changes k p a b Start v in
@@ -117,15 +119,15 @@ pub info_next : (k : Bool) (p : TransferPart) (a b : Bool) → part_next k p a b
 info_next k p a b = go (part_verdict k p a b GetFwInfo)
   where
     go : (v : Verdict) → part_after v p GetFwInfo ≡ p
-    go Accepted = refl
-    go (Refused refusal) = refl
+    go (Ok tt) = refl
+    go (Err refusal) = refl
 
 pub query_next : (k : Bool) (p : TransferPart) (a b : Bool) (context : ℕ) → part_next k p a b (Query context) ≡ p
 query_next k p a b context = go (part_verdict k p a b (Query context))
   where
     go : (v : Verdict) → part_after v p (Query context) ≡ p
-    go Accepted = refl
-    go (Refused refusal) = refl
+    go (Ok tt) = refl
+    go (Err refusal) = refl
 
 -- Get FW Info shows the two versions only
 info_same : (k : Bool) (p u : TransferPart) (a b : Bool) (n : ℕ) (answer : List ℕ) → u.transfer.running ≡ p.transfer.running → u.transfer.staged ≡ p.transfer.staged

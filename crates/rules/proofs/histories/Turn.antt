@@ -1,9 +1,8 @@
 -- Each from one host: with honest hosts every Send and every Finish of the open transfer is made by the host that started it.
 -- Assumes nothing.
 use Prim.Native.Nat.{ℕ, ◌≤◌}
-use mathlib.Core.{Path.{◌≡◌, refl, sym, ◌∙◌, subst}, Logic.{inl, inr}, Bool.Bool, List.{[], List, ◌∷◌}}
+use mathlib.Core.{Path.{◌≡◌, refl, sym, ◌∙◌, subst}, Logic.{inl, inr}, List.{[], List, ◌∷◌}}
 use native.Mathlib.Omega.{arith}
-use Rattle.std.specs.Prelude.{if◌then◌else◌}
 use Rattle.rules.specs.{Tests.{◌=?◌}, Record.Whole, History.{Plays, All}}
 use Rattle.rules.specs.Transfers.{machine, Exchange, History, Kind, Started, Sent, Finished, Ticked, Powered, Other, kind_of, Open, none, by, with_piece, after_power, open_after, ContextIs, InOrder, StarterIs, ByStarter, AllByStarter}
 use Rattle.rules.specs.{Hosts.{AnsweredTo, HonestAfter}, Demand3.Sound}

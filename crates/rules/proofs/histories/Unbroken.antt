@@ -1,7 +1,7 @@
 -- All finished transfers at once: the rearranged history is made by moves, and in it each finished transfer is unbroken.
 -- Assumes nothing.
 use Prim.Native.Nat.{ℕ}
-use mathlib.Core.{Path.{◌≡◌, refl, sym, ◌∙◌, ap, subst}, Logic.{◌⊎◌, inl, inr}, Bool.{Bool, true, false, ◌&&◌, ◌||◌, false≢true}, List.{[], ◌∷◌, ◌++◌, append_assoc}}
+use mathlib.Core.{Path.{◌≡◌, refl, sym, ◌∙◌, ap, subst}, Logic.{inl, inr}, Bool.{Bool, true, false, ◌&&◌, ◌||◌, false≢true}, List.{[], ◌∷◌, ◌++◌, append_assoc}}
 use native.Mathlib.Omega.{arith}
 use borrow.Author.Tests.{eqb-true, eq-eqb}
 use Rattle.rules.specs.{Tests.◌=?◌, Record.Whole, History.{Plays, All, Same, some, up_to, on_from}}

@@ -1,15 +1,15 @@
 -- One image waits at a time, in both modules together: while one is verified no Start is accepted.
 -- Assumes nothing.
 use Prim.Native.Nat.{ℕ, ◌≤◌}
-use mathlib.Core.{Path.{◌≡◌, refl, sym, ◌∙◌, ap, subst}, Logic.{◌⊎◌, inl, inr}, Bool.{Bool, true, false, ◌||◌}, List.{[], ◌∷◌, ◌++◌}}
+use mathlib.Core.{Path.{◌≡◌, refl, sym, ◌∙◌, ap, subst}, Logic.{◌⊎◌, inl, inr}, Bool.{Bool, true, false}, List.{[], ◌∷◌, ◌++◌}}
 use native.Mathlib.Omega.{arith}
 use borrow.Author.Tests.{leb-true, leb-false}
-use Rattle.rules.specs.{Tests.{◌≤?◌, ◌=?◌, ◌<?◌}, Numbers.verification, Record.{◌is◌, Whole}, Transfer.Finish, History.{Plays, end, All}}
-use Rattle.rules.specs.{Transfers.{machine, Exchange, History, Started, Finished, kind_of}, Sends.{ticks_in, power_cycles}, Demand3.{Sound, OneWaits}, declared.Phase.Phase}
+use Rattle.rules.specs.{Tests.{◌≤?◌, ◌=?◌}, Numbers.verification, Record.{◌is◌, Whole}, Transfer.Finish, History.{Plays, end, All}}
+use Rattle.rules.specs.{Transfers.{machine, History, Finished}, Sends.{ticks_in, power_cycles}, Demand3.{Sound, OneWaits}, declared.Phase.Phase}
 use Rattle.rules.specs.declared.{Phase.TheVariants.{Receiving, Verifying}}
-use Rattle.rules.proofs.{histories.Joining.{plays_right, all_left, all_right}, page.Split.{Seen, seen_from, number, taken, TransferPart, part_of, part_change}, page.Through.side_named}
-use Rattle.rules.proofs.{page.Choice.or_false, page.Facts.{never, StartOk}, page.Possible.sound_next, histories.KindOf.finished_named, histories.Gate.{Remains, Unstopped, unstopped, module_there, inwards, sound_end}}
-use Rattle.rules.proofs.{histories.Order.{StartedAt, started_at}, histories.Due.{Held, held, after_finish}}
+use Rattle.rules.proofs.{histories.Joining.{plays_right, all_left, all_right}, page.Split.{seen_from, number, taken, TransferPart, part_of, part_change}, page.Through.side_named}
+use Rattle.rules.proofs.{page.Choice.or_false, page.Facts.{never, StartOk}, page.Possible.sound_next, histories.KindOf.finished_named, histories.Gate.{Remains, Unstopped, module_there, inwards, sound_end}}
+use Rattle.rules.proofs.{histories.Order.{started_at}, histories.Due.{Held, held, after_finish}}
 
 -- a Start of either module finds neither verifying
 not_verifying : (z first : Bool) (w : Whole) → StartOk (seen_from z w).own.transfer w.cabinet.contexts (taken (seen_from z w)) → ((seen_from first w).own.transfer.phase is Verifying) ≡ false

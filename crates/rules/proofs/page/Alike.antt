@@ -8,11 +8,13 @@ use lib.ListN.{length, take}
 use Rattle.std.specs.Prelude.{if◌then◌else◌}
 use Rattle.rules.specs.{Tests.{◌=?◌, ◌<?◌}, Bytes.{number_at, splice}, Numbers.verification, Record.{◌is◌, has_area}, Fault.image_of, With.{◌with_phase◌, ◌with_received◌, ◌with_ticks◌, ◌with_transfer◌}}
 use Rattle.rules.specs.Transfer.{TransferCall, GetFwInfo, Start, Send, Finish, Query, start_change, send_change, finish_change, after_verifying, tick_change, received_bytes}
-use Rattle.rules.specs.{Module.device_ticked, Transfers.Answer, declared.Refusal.TheVariants.{R, Status}, declared.Verdict.Verdict, declared.Verdict.TheVariants.{Accepted, Refused}}
+use Rattle.rules.specs.{Module.device_ticked, Transfers.Answer, declared.Refusal.TheVariants.{R, Status}}
 use Rattle.rules.specs.{declared.Phase.Phase, declared.Phase.TheVariants.{Idle, Receiving, Verifying}, declared.Transfer.Transfer, declared.Device.Device}
 use Rattle.rules.proofs.{page.Choice.or_true, page.Le.of_le_le, page.Facts.{never, start_ok, send_ok, finish_ok, written, Tick, calm, counting, good, bad, tick_case}}
-use Rattle.rules.proofs.{page.Keeps.{Ok, apart, other_does, tick_area}, page.Possible.Fine}
+use Rattle.rules.proofs.{page.Keeps.{SeenOk, apart, other_does, tick_area}, page.Possible.Fine}
 use Rattle.rules.proofs.page.Split.{Seen, turned, taken, part_of, ◌with_its_part◌, Doing, Transfers, Others, Powers, Reads, Act, Mine, Theirs, Ticks, answer_by, part_verdict, part_change, part_after, told, does, answers, nexts}
+use Rattle.rules.specs.Refusals.{Verdict}
+use Rattle.std.specs.Prelude.{Ok, Err}
 
 pub record Alike (s u : Seen) : Type 0 where
   pub same_own : s.own ≡ u.own
@@ -57,19 +59,19 @@ told_alike s u (Reads new) f e = refl
 
 -- the verdict stands in the answer
 judged : (v : Verdict) (n : ℕ) (bytes answer : List ℕ) → (answer_by v n bytes answer).reply.verdict ≡ v
-judged Accepted n bytes answer = refl
-judged (Refused (R number)) n bytes answer = refl
-judged (Refused (Status status ext)) n bytes answer = refl
+judged (Ok tt) n bytes answer = refl
+judged (Err (R number)) n bytes answer = refl
+judged (Err (Status status ext)) n bytes answer = refl
 
 -- and so does the context that a Start is given
-context_told : (s : Seen) (host : ℕ) (a b : Bool) (n : ℕ) (answer : List ℕ) → Fine s → part_verdict (taken s) (part_of s) a b Start ≡ Accepted
+context_told : (s : Seen) (host : ℕ) (a b : Bool) (n : ℕ) (answer : List ℕ) → Fine s → part_verdict (taken s) (part_of s) a b Start ≡ Ok tt
     → number_at 4 4 (told s (Transfers host a b Start n answer)).buffer ≡ s.given + 1
 context_told s host a b n answer fine v =
     let left = (start_ok (taken s) (part_of s) a b v).left in
     rw v (of_le_le 4 (s.given + 1) (omega (arith, fine.fit)))
 
 -- a piece that follows the received bytes is written behind the same bytes
-written_alike : (s u : Seen) (offset size : ℕ) (piece : List ℕ) → Ok s → Ok u → offset ≡ s.own.transfer.received → size ≡ length piece → offset + size ≤ length s.area
+written_alike : (s u : Seen) (offset size : ℕ) (piece : List ℕ) → SeenOk s → SeenOk u → offset ≡ s.own.transfer.received → size ≡ length piece → offset + size ≤ length s.area
     → received_bytes s.own.transfer s.area ≡ received_bytes s.own.transfer u.area
     → take (s.own.transfer.received + size) (splice offset piece s.area) ≡ take (s.own.transfer.received + size) (splice offset piece u.area)
 written_alike s u offset size piece v w here long inside same =
@@ -84,7 +86,7 @@ written_alike s u offset size piece v w here long inside same =
 
 -- a call that both accept, with the same answer
 change_alike : (s u : Seen) (host : ℕ) (a b : Bool) (x : TransferCall) (n : ℕ) (answer : List ℕ) → Fine s → Fine u → Alike s u
-    → part_verdict (taken s) (part_of s) a b x ≡ Accepted → part_verdict (taken u) (part_of u) a b x ≡ Accepted
+    → part_verdict (taken s) (part_of s) a b x ≡ Ok tt → part_verdict (taken u) (part_of u) a b x ≡ Ok tt
     → told s (Transfers host a b x n answer) ≡ told u (Transfers host a b x n answer)
     → Alike (s with_its_part part_change (part_of s) x) (u with_its_part part_change (part_of u) x)
 change_alike s u host a b GetFwInfo n answer v w k p q e = k
@@ -134,8 +136,8 @@ does_alike s u (Transfers host a b x n answer) v w k e =
     same = sym (judged seen n _ answer) ∙ ap (λ (z : Answer). z.reply.verdict) e ∙ judged (part_verdict (taken u) (part_of u) a b x) n _ answer
 
     go : (c : Verdict) → seen ≡ c → Alike (s with_its_part part_after c (part_of s) x) (u with_its_part part_after c (part_of u) x)
-    go Accepted p = change_alike s u host a b x n answer v w k p (sym same ∙ p) e
-    go (Refused refusal) p = k
+    go (Ok tt) p = change_alike s u host a b x n answer v w k p (sym same ∙ p) e
+    go (Err refusal) p = k
 does_alike s u (Others a b x n answer) v w k e =
     record { same_own = ap (λ (z : Device). (does (s with_own z) (Others a b x n answer)).own) k.same_own; same_bytes = k.same_bytes }
 does_alike s u Powers v w k e = record { same_own = ap (λ (z : Device). (does (s with_own z) Powers).own) k.same_own; same_bytes = λ f. refl }
@@ -175,7 +177,7 @@ ticks_alike s u k =
     had false e f = never (sym f ∙ tick_area s.own.transfer s.area e)
 
 -- what the other module does, in one of the two cabinets
-theirs_alike : (s u : Seen) (d : Doing) → Ok s → Alike s u → Alike (nexts s (Theirs d)) u
+theirs_alike : (s u : Seen) (d : Doing) → SeenOk s → Alike s u → Alike (nexts s (Theirs d)) u
 theirs_alike s u d w k =
     let o = other_does (turned s) d in
     record {

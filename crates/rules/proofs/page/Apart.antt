@@ -6,9 +6,11 @@ use Rattle.std.specs.Prelude.{if◌then◌else◌}
 use Rattle.rules.specs.{Tests.{◌=?◌, ◌<?◌}, Record.{Whole, device_of, with_device_at, standing}, Table.{row_of, served_check, length_check}}
 use Rattle.rules.specs.{Refusals.{R4Check, verdict, tick_checks, event_checks, one_attempt_more}, Module.{Call, call_in, checks, change, device_powered, device_keeping}}
 use Rattle.rules.specs.Cabinet.{call, tick, power, reading, outcome, happened, ticked, powered, call_checks, reading_checks, call_result, tick_result, power_result, reading_result}
-use Rattle.rules.specs.{Apart.OtherLeft, Demand1.Among, declared.Refusal.Refusal, declared.Refusal.TheVariants.{R, Status}, declared.Verdict.Verdict, declared.Verdict.TheVariants.{Accepted, Refused}}
+use Rattle.rules.specs.{Apart.OtherLeft, Demand1.Among, declared.Refusal.Refusal, declared.Refusal.TheVariants.{R, Status}}
 use Rattle.rules.specs.declared.{Device.Device, Cabinet.Cabinet}
 use Rattle.rules.proofs.{page.Past.{NoR, event_there, call_there}, page.Through.mine_named, page.Demand1.{happened_verdict, happened_among}}
+use Rattle.rules.specs.Refusals.{Verdict}
+use Rattle.std.specs.Prelude.{Ok, Err}
 
 -- a record in one module's place leaves the other's: `o` and `z` tell whether the module looked at, and the one put in its place, is module 0
 elsewhere : (o z : Bool) (d first second : Device) → (if o then z else not z) ≡ false
@@ -32,14 +34,14 @@ module _ (own : ℕ) (l : own ≤ 1) where
   -- a call, and a power cycle or a reading: with an R number nothing changes, and else the module that it names is one that there is
   outcome_left : (v : Verdict) (w : Whole) (named : ℕ) (c : Call) (n : ℕ) (answer : List ℕ) → (named =? own) ≡ false → (NoR v → (1 <? named) ≡ false)
       → device_of own (outcome v w named c n answer).after.cabinet ≡ device_of own w.cabinet
-  outcome_left Accepted w named c n answer e there = other_place named (change (standing named w) c).device w.cabinet e (there tt)
-  outcome_left (Refused (R number)) w named c n answer e there = refl
-  outcome_left (Refused (Status status ext)) w named c n answer e there = left_there (status =? 11) named w.cabinet e (there tt)
+  outcome_left (Ok tt) w named c n answer e there = other_place named (change (standing named w) c).device w.cabinet e (there tt)
+  outcome_left (Err (R number)) w named c n answer e there = refl
+  outcome_left (Err (Status status ext)) w named c n answer e there = left_there (status =? 11) named w.cabinet e (there tt)
 
   happened_left : (v : Verdict) (w : Whole) (named : ℕ) (d : Device) → (named =? own) ≡ false → (NoR v → (1 <? named) ≡ false)
       → device_of own (happened v (record { cabinet = with_device_at named d w.cabinet; area = w.area }) w).after.cabinet ≡ device_of own w.cabinet
-  happened_left Accepted w named d e there = other_place named d w.cabinet e (there tt)
-  happened_left (Refused refusal) w named d e there = refl
+  happened_left (Ok tt) w named d e there = other_place named d w.cabinet e (there tt)
+  happened_left (Err refusal) w named d e there = refl
 
 pub other_left : OtherLeft
 unfolding call_result power_result reading_result
@@ -64,10 +66,10 @@ pub power_judged : (w : Whole) (named : ℕ) → (power_result w named).reply.ve
 unfolding power_result
 power_judged w named = happened_verdict (verdict (event_checks w named)) (powered w named) w
 
-pub of_ticks : (w : Whole) (refusal : Refusal) → (tick_result w).reply.verdict ≡ Refused refusal → Among (R 2 ∷ R 3 ∷ []) refusal
+pub of_ticks : (w : Whole) (refusal : Refusal) → (tick_result w).reply.verdict ≡ Err refusal → Among (R 2 ∷ R 3 ∷ []) refusal
 unfolding tick_result
 of_ticks w = happened_among (R 2 ∷ R 3 ∷ []) (tick_checks w) (ticked w) w refl
 
-pub of_power : (w : Whole) (named : ℕ) (refusal : Refusal) → (power_result w named).reply.verdict ≡ Refused refusal → Among (R 2 ∷ R 5 ∷ R 3 ∷ []) refusal
+pub of_power : (w : Whole) (named : ℕ) (refusal : Refusal) → (power_result w named).reply.verdict ≡ Err refusal → Among (R 2 ∷ R 5 ∷ R 3 ∷ []) refusal
 unfolding power_result
 of_power w named = happened_among (R 2 ∷ R 5 ∷ R 3 ∷ []) (event_checks w named) (powered w named) w refl

@@ -1,16 +1,17 @@
 -- Document 02, T-06: what the report of two logs says of them.
 -- Assumes nothing.
-use Prim.Native.Nat.{ℕ, zero, suc, ◌+◌, ◌-◌, ◌*◌, ◌/◌, ◌≤◌, ◌<◌}
-use mathlib.Core.{Path.{◌≡◌, refl, sym, ◌∙◌, ap, subst}, Bool.{Bool, true, false, not, ◌&&◌, ◌||◌, false≢true, true≢false}, List.{List, [], ◌∷◌, ◌++◌}}
+use Prim.Native.Nat.{ℕ, zero, suc, ◌+◌, ◌≤◌, ◌<◌}
+use mathlib.Core.{Path.{◌≡◌, refl, sym, ◌∙◌, ap, subst}, Bool.{Bool, true, false, not, ◌&&◌, ◌||◌}, List.{List, [], ◌∷◌, ◌++◌}}
 use native.Mathlib.{Nat.zero-add, Numerals.add-one, Omega.arith}
-use borrow.Author.Tests.{lt-ltb, le-ltb, le-leb, lt-leb, eq-eqb, ne_eqb, ltb-true, ltb-false, leb-true, leb-false, eqb-true, eqb-false, not-false, not-true}
-use lib.{ListN.{length, take, drop, length-take, length-drop, take-append-drop}, Seq.{take_all, take-length}}
+use borrow.Author.Tests.{lt-ltb, le-ltb, le-leb, lt-leb, eq-eqb, ltb-true, ltb-false, leb-true, leb-false, eqb-true, eqb-false, not-false}
+use lib.{ListN.{length, drop, length-drop, take-append-drop}, Seq.{take_all}}
 use Rattle.std.specs.Prelude.{if◌then◌else◌}
 use Rattle.rules.specs.{Tests.{◌≤?◌, ◌<?◌, ◌=?◌}, Bytes.same?, Log.record_at}
 use Rattle.rules.specs.Bytes.{splice}
-use Rattle.rules.specs.Compare.{compared, beyond, places_in, equal_at, fields_differing, fields_at, Difference, difference_at, differences_to, leading_on, leading_to, places, leading, differences, place_equal, place_fields, rest, left, comparison, entry, entries, list_after, rest_after, listed?, Rising, FieldsTold, any?, Laid, RequestT06}
-use Rattle.rules.specs.declared.{Comparison.Comparison, Comparison.TheVariants.{Compared, Full}}
+use Rattle.rules.specs.Compare.{compared, beyond, equal_at, fields_differing, fields_at, Difference, difference_at, differences_to, leading_on, leading_to, places, leading, differences, rest, left, comparison, entries, list_after, rest_after, listed?, Rising, FieldsTold, RequestT06}
 use Rattle.rules.proofs.page.Places.{same_refl, six, as_long, all_equal}
+use Rattle.rules.specs.Compare.{Comparison, report, list_full}
+use Rattle.std.specs.Prelude.{Ok, Err}
 
 -- ---- which places are listed
 or_assoc : (a b c : Bool) → ((a || b) || c) ≡ (a || (b || c))
@@ -211,29 +212,29 @@ none_there (d ∷ ds) e = absurd (omega (arith, e))
 
 -- what a report with no difference and nothing left over has
 abbrev Clean : Comparison → Type 0
-Clean (Compared l d n) = (d ≡ 0) × (n ≡ 0)
-Clean (Full d) = ⊥
+Clean (Ok told) = (told.differing ≡ 0) × (told.left ≡ 0)
+Clean (Err told) = ⊥
 
 module _ (first second : List ℕ) where
-  clean_equal : (room lead : ℕ) → comparison first second room ≡ Compared lead 0 0 → first ≡ second
+  clean_equal : (room lead : ℕ) → comparison first second room ≡ report lead 0 0 → first ≡ second
   clean_equal room lead e = go (length (differences first second) ≤? room) (subst Clean (sym e) (refl, refl))
     where
-      go : (t : Bool) → Clean (if t then Compared (leading first second) (length (differences first second)) (left first second) else Full (length (differences first second)))
+      go : (t : Bool) → Clean (if t then report (leading first second) (length (differences first second)) (left first second) else list_full (length (differences first second)))
           → first ≡ second
       go true c = equal_logs first second (none_there (differences first second) c.0) c.1
       go false c = absurd c
 
-  equal_clean : (room : ℕ) → first ≡ second → comparison first second room ≡ Compared (places first second) 0 0
+  equal_clean : (room : ℕ) → first ≡ second → comparison first second room ≡ report (places first second) 0 0
   equal_clean room e =
-      subst (λ (other : List ℕ). comparison first other room ≡ Compared (places first other) 0 0) e itself
+      subst (λ (other : List ℕ). comparison first other room ≡ report (places first other) 0 0) e itself
     where
-      itself : comparison first first room ≡ Compared (places first first) 0 0
+      itself : comparison first first room ≡ report (places first first) 0 0
       itself =
           let is = logs_equal first first refl in
-          ap (λ (ds : List Difference). if length ds ≤? room then Compared (leading first first) (length ds) (left first first) else Full (length ds)) is.0
-          ∙ ap (λ (t : Bool). if t then Compared (leading first first) 0 (left first first) else Full 0) (le-leb 0 room (omega arith))
-          ∙ ap (λ (n : ℕ). Compared (leading first first) 0 n) is.1
-          ∙ ap (λ (n : ℕ). Compared n 0 0) (all_lead (compared first first) (places first first))
+          ap (λ (ds : List Difference). if length ds ≤? room then report (leading first first) (length ds) (left first first) else list_full (length ds)) is.0
+          ∙ ap (λ (t : Bool). if t then report (leading first first) 0 (left first first) else list_full 0) (le-leb 0 room (omega arith))
+          ∙ ap (λ (n : ℕ). report (leading first first) 0 n) is.1
+          ∙ ap (λ (n : ℕ). report n 0 0) (all_lead (compared first first) (places first first))
 
 -- as many entries as places that differ
 pub as_many : (ds : List Difference) → length (entries ds) ≡ length ds
@@ -243,7 +244,7 @@ as_many (d ∷ ds) = ap suc (as_many ds)
 -- a list that holds every differing place, and one that does not
 module _ (first second : List ℕ) where
   abbrev told_of : Bool → Comparison
-  told_of t = if t then Compared (leading first second) (length (differences first second)) (left first second) else Full (length (differences first second))
+  told_of t = if t then report (leading first second) (length (differences first second)) (left first second) else list_full (length (differences first second))
 
   abbrev list_of : (list : List ℕ) → Bool → List ℕ
   list_of list t = if t then splice 0 (entries (differences first second)) list else list

@@ -8,10 +8,11 @@ use Rattle.rules.specs.{Tests.◌=?◌, Bytes.zeros, Record.{Module, Whole, stan
 use Rattle.rules.specs.{Module.{Call, call_of, checks, accepted_answer}, Cabinet.{gate_checks, call_checks, outcome, call_result, happened, kept, reading_checks, reading_result}}
 use Rattle.rules.specs.{Demand1.{refusal_numbers, Among, Numbered, column, RefusedBy, Answered, OfCall, reading_numbers, OfReading, Demand1}, declared.Function.Function}
 use Rattle.rules.specs.declared.Function.TheVariants.{Mask, GetHealth, GetThreshold, GetFwInfo, Start, Send, Finish, Query, SetThreshold, GetSecurityState, SetPassphrase, Disable, Unlock, Freeze, Unserved}
-use Rattle.rules.specs.{declared.Row.Row, declared.Reading.Reading, declared.Refusal.Refusal, declared.Refusal.TheVariants.{R, Status}, declared.Verdict.Verdict}
-use Rattle.rules.specs.declared.Verdict.TheVariants.{Accepted, Refused}
+use Rattle.rules.specs.{declared.Row.Row, declared.Reading.Reading, declared.Refusal.Refusal, declared.Refusal.TheVariants.{R, Status}}
 use Rattle.rules.proofs.{page.Choice.and_true, page.Passed.{every, by_rows}, page.Rows.looked_up, page.Given.{each_given, each_by_reading}}
 use Rattle.rules.proofs.page.Possible.{possible_fresh, possible_next, area_next, no_other_R}
+use Rattle.rules.specs.Refusals.{Verdict}
+use Rattle.std.specs.Prelude.{Ok, Err}
 
 -- a test for the numbers of a list, and that it tells the truth
 abbrev pub same_number : Refusal → Refusal → Bool
@@ -45,9 +46,9 @@ numbered? refusal = among? refusal_numbers refusal
 
 -- a verdict that a function with an answer of n bytes may give: a refusal has a number, and its column is its length
 abbrev allowed : (n : ℕ) → Verdict → Bool
-allowed n Accepted = true
-allowed n (Refused (R number)) = numbered? (R number)
-allowed n (Refused (Status status ext)) = numbered? (Status status ext) && status_length status n =? column status n
+allowed n (Ok tt) = true
+allowed n (Err (R number)) = numbered? (R number)
+allowed n (Err (Status status ext)) = numbered? (Status status ext) && status_length status n =? column status n
 
 -- the answer's length, by function
 abbrev answer_of : Function → ℕ
@@ -90,18 +91,18 @@ own_allowed m Unserved revision request = refl
 
 -- the verdict that a result replies
 outcome_verdict : (v : Verdict) (w : Whole) (named : ℕ) (call : Call) (n : ℕ) (answer : List ℕ) → (outcome v w named call n answer).reply.verdict ≡ v
-outcome_verdict Accepted w named call n answer = refl
-outcome_verdict (Refused (R number)) w named call n answer = refl
-outcome_verdict (Refused (Status status ext)) w named call n answer = refl
+outcome_verdict (Ok tt) w named call n answer = refl
+outcome_verdict (Err (R number)) w named call n answer = refl
+outcome_verdict (Err (Status status ext)) w named call n answer = refl
 
-refused_by : (refusal : Refusal) (w : Whole) (named : ℕ) (call : Call) (n : ℕ) (answer : List ℕ) → allowed n (Refused refusal) ≡ true
-    → RefusedBy refusal w named n answer (outcome (Refused refusal) w named call n answer)
+refused_by : (refusal : Refusal) (w : Whole) (named : ℕ) (call : Call) (n : ℕ) (answer : List ℕ) → allowed n (Err refusal) ≡ true
+    → RefusedBy refusal w named n answer (outcome (Err refusal) w named call n answer)
 refused_by (R number) w named call n answer e = (refl, refl, refl, refl)
 refused_by (Status status ext) w named call n answer e =
     let long = eqb-true (status_length status n) (column status n) (and_true (numbered? (Status status ext)) (status_length status n =? column status n) e).1 in
     (refl, refl, ap (λ (k : ℕ). answer_after (status_bytes status ext ++ zeros (k - 4)) answer) long, long)
 
-numbers_of : (n : ℕ) (refusal : Refusal) → allowed n (Refused refusal) ≡ true → Numbered refusal
+numbers_of : (n : ℕ) (refusal : Refusal) → allowed n (Err refusal) ≡ true → Numbered refusal
 numbers_of n (R number) e = among_them refusal_numbers (R number) e
 numbers_of n (Status status ext) e =
     among_them refusal_numbers (Status status ext) (and_true (numbered? (Status status ext)) (status_length status n =? column status n) e).0
@@ -158,7 +159,7 @@ module _ (w : Whole) (named revision index : ℕ) (request answer : List ℕ) wh
       gated : (f : Function) → every (allowed (answer_of f)) (gate_checks w named revision index request answer ++ checks m (call_of f revision request)) ≡ true
       gated f = rw (eq-eqb (answer_of f) (answer_of f) refl) (own_allowed m f revision request)
 
-  is_allowed : (refusal : Refusal) → judged ≡ Refused refusal → allowed n (Refused refusal) ≡ true
+  is_allowed : (refusal : Refusal) → judged ≡ Err refusal → allowed n (Err refusal) ≡ true
   unfolding judged
   is_allowed refusal e = ap (allowed n) (sym e) ∙ by_rows (allowed n) (call_checks w named revision index request answer) all_allowed
 
@@ -166,7 +167,7 @@ module _ (w : Whole) (named revision index : ℕ) (request answer : List ℕ) wh
   unfolding call_result judged
   replied = outcome_verdict judged w named (call_of (row_of index).function revision request) (row_of index).answer answer
 
-  answered : judged ≡ Accepted → Answered (row_of index) answer (call_result w named revision index request answer)
+  answered : judged ≡ Ok tt → Answered (row_of index) answer (call_result w named revision index request answer)
   unfolding call_result judged m
   answered e =
       subst (λ (v : Verdict). Answered (row_of index) answer (outcome v w named (call_of (row_of index).function revision request) (row_of index).answer answer)) (sym e)
@@ -185,7 +186,7 @@ module _ (w : Whole) (named revision index : ℕ) (request answer : List ℕ) wh
         judged = replied;
         numbers = λ refusal e. numbers_of n refusal (is_allowed refusal (sym replied ∙ e));
         leaves = λ refusal e.
-            let f : judged ≡ Refused refusal = sym replied ∙ e in
+            let f : judged ≡ Err refusal = sym replied ∙ e in
             subst (λ (v : Verdict). RefusedBy refusal w named n answer (outcome v w named (call_of (row_of index).function revision request) n answer)) (sym f)
             (refused_by refusal w named (call_of (row_of index).function revision request) n answer (is_allowed refusal f));
         answers = λ e. answered (sym replied ∙ e);
@@ -193,15 +194,15 @@ module _ (w : Whole) (named revision index : ℕ) (request answer : List ℕ) wh
 
 -- a tick, a power cycle or a reading: where every one of its rows gives a number of the list, it is refused by one of them
 pub happened_verdict : (v : Verdict) (changed was : Whole) → (happened v changed was).reply.verdict ≡ v
-happened_verdict Accepted changed was = refl
-happened_verdict (Refused refusal) changed was = refl
+happened_verdict (Ok tt) changed was = refl
+happened_verdict (Err refusal) changed was = refl
 
 abbrev pub of_these : List Refusal → Verdict → Bool
-of_these numbers Accepted = true
-of_these numbers (Refused refusal) = among? numbers refusal
+of_these numbers (Ok tt) = true
+of_these numbers (Err refusal) = among? numbers refusal
 
 pub happened_among : (numbers : List Refusal) (rows : List Check) (changed was : Whole) → every (of_these numbers) rows ≡ true
-    → (refusal : Refusal) → (happened (verdict rows) changed was).reply.verdict ≡ Refused refusal → Among numbers refusal
+    → (refusal : Refusal) → (happened (verdict rows) changed was).reply.verdict ≡ Err refusal → Among numbers refusal
 happened_among numbers rows changed was own refusal e =
     among_them numbers refusal (ap (of_these numbers) (sym e ∙ happened_verdict (verdict rows) changed was) ∙ by_rows (of_these numbers) rows own)
 
@@ -220,8 +221,8 @@ of_reading w named new =
     replied = happened_verdict (verdict (reading_checks w named new)) (kept w named new) w
 
     silence : (v : Verdict) → ((happened v (kept w named new) w).reply.length ≡ 0) × ((happened v (kept w named new) w).answer ≡ [])
-    silence Accepted = (refl, refl)
-    silence (Refused refusal) = (refl, refl)
+    silence (Ok tt) = (refl, refl)
+    silence (Err refusal) = (refl, refl)
 
 pub demand_1 : Demand1
 demand_1 =

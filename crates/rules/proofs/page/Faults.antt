@@ -4,13 +4,15 @@ use Prim.Native.Nat.{ℕ, zero, suc, ◌+◌, ◌*◌, ◌≤◌, ◌<◌}
 use mathlib.Core.{Path.{◌≡◌, refl, sym, ◌∙◌, ap, subst}, Logic.◌↔◌, Bool.{Bool, true, false, not, ◌&&◌, true≢false, false≢true}, List.{List, [], ◌∷◌}}
 use native.Mathlib.Omega.{arith}
 use lib.{ListN.{length, take, drop}, Seq.drop-drop}
-use borrow.Author.Tests.{eq-eqb, ne_eqb, eqb-true, eqb-false, ltb-true, ltb-false, leb-true, not-true, not-false}
+use borrow.Author.Tests.{eq-eqb, ne_eqb, eqb-true, eqb-false, leb-true}
 use Rattle.std.specs.Prelude.{if◌then◌else◌}
-use Rattle.rules.specs.{Tests.{◌=?◌, ◌<?◌, ◌≤?◌}, Bytes.{of_le, number_at}}
+use Rattle.rules.specs.{Tests.{◌=?◌, ◌≤?◌}, Bytes.{of_le, number_at}}
 use Rattle.rules.specs.Image.{image_record_size, records_of, good_record, good_records, good_size, version_of, good_image}
 use Rattle.rules.specs.Fault.{reason_number, Fault, none, ◌of_record◌, number_test, count_test, version_test, sum_test, record_fault, ◌or_else◌, records_fault, first_fault, judged, image_of, image_record, passes, Named, First, RequestT03}
-use Rattle.rules.specs.declared.{Reason.Reason, Reason.TheVariants.{Size, Number, Count, Version, Sum}, Image.TheVariants.{Good, Bad}}
-use Rattle.rules.proofs.page.Choice.{and_true, and_3}
+use Rattle.rules.specs.declared.{Reason.Reason, Reason.TheVariants.{Size, Number, Count, Version, Sum}}
+use Rattle.rules.proofs.page.Choice.{and_3}
+use Rattle.rules.specs.{Fault.{bad_image}, declared.FirstFault.FirstFault}
+use Rattle.std.specs.Prelude.{Ok}
 
 -- a fault told from none
 clean : Fault → Bool
@@ -410,28 +412,30 @@ first_kept bytes Version i a = omega (arith, a.named, few_records bytes (a.tests
 first_kept bytes Sum i a = omega (arith, a.named, few_records bytes (a.tests_before Size (omega arith)))
 
 -- what the bytes are says what their first fault is
-bad_fault : (f : Fault) (version : ℕ) (r : Reason) (i : ℕ) → judged f version ≡ Bad r i → f ≡ (r of_record i)
+bad_fault : (f : Fault) (version : ℕ) (r : Reason) (i : ℕ) → judged f version ≡ bad_image r i → f ≡ (r of_record i)
 bad_fault none version r i e = let z : ◌≡◌ {A = ℕ} 0 1 = cc in absurd (omega arith)
-bad_fault (q of_record k) version r i e = let same : q ≡ r = cc in let place : k ≡ i = cc in λ x. same x of_record place x
+bad_fault (q of_record k) version r i e =
+    let same : ◌≡◌ {A = FirstFault} (record { reason = q; number = k }) (record { reason = r; number = i }) = cc in
+    λ x. (same x).reason of_record (same x).number
 
-pub bad_kept : (bytes : List ℕ) (r : Reason) (i : ℕ) → image_of bytes ≡ Bad r i → Kept (reason_number r) i
+pub bad_kept : (bytes : List ℕ) (r : Reason) (i : ℕ) → image_of bytes ≡ bad_image r i → Kept (reason_number r) i
 unfolding image_of
 bad_kept bytes r i e =
     let fault = bad_fault (first_fault bytes) (version_of bytes) r i e in
     record { some_reason = from_1 r; last_reason = to_5 r; last_record = first_kept bytes r i (named_is_first bytes r i fault) }
 
-good_fault : (f : Fault) (own version : ℕ) → judged f own ≡ Good version → (f ≡ none) × (version ≡ own)
+good_fault : (f : Fault) (own version : ℕ) → judged f own ≡ Ok version → (f ≡ none) × (version ≡ own)
 good_fault none own version e = let same : own ≡ version = cc in (refl, sym same)
 good_fault (q of_record k) own version e = let z : ◌≡◌ {A = ℕ} 0 1 = cc in absurd (omega arith)
 
-pub is_good : (bytes : List ℕ) (version : ℕ) → (image_of bytes ≡ Good version) ↔ ((good_image bytes ≡ true) × (version ≡ version_of bytes))
+pub is_good : (bytes : List ℕ) (version : ℕ) → (image_of bytes ≡ Ok version) ↔ ((good_image bytes ≡ true) × (version ≡ version_of bytes))
 unfolding image_of
 is_good bytes version = (
   λ e. let f = good_fault (first_fault bytes) (version_of bytes) version e in (none_good bytes f.0, f.1),
   λ g. rw (good_none bytes g.0, g.1),
 )
 
-is_bad : (bytes : List ℕ) (r : Reason) (i : ℕ) → (image_of bytes ≡ Bad r i) ↔ First r i bytes
+is_bad : (bytes : List ℕ) (r : Reason) (i : ℕ) → (image_of bytes ≡ bad_image r i) ↔ First r i bytes
 unfolding image_of
 is_bad bytes r i =
     (λ e. named_is_first bytes r i (bad_fault (first_fault bytes) (version_of bytes) r i e), λ a. rw (first_is_named bytes r i a))

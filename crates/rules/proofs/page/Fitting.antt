@@ -5,9 +5,10 @@ use Prim.Native.Nat.{ℕ, ◌≤◌}
 use lib.{Dec.lit≤, ListN.length}
 use borrow.Author.Tests.{eqb-true, leb-true, not-false}
 use Rattle.rules.specs.{Tests.◌=?◌, Table.{table, row_of, fits?}, Refusals.verdict, Record.Whole, Cabinet.gate_checks, declared.Row.Row}
-use Rattle.rules.specs.{declared.Verdict.TheVariants.Accepted, declared.Function.Function}
+use Rattle.rules.specs.{declared.Function.Function}
 use Rattle.rules.specs.declared.Function.TheVariants.{Mask, GetHealth, GetThreshold, GetFwInfo, Start, Send, Finish, Query, SetThreshold, GetSecurityState, SetPassphrase, Disable, Unlock, Freeze, Unserved}
 use Rattle.rules.proofs.{page.Rows.looked_up, page.Passed.passed}
+use Rattle.std.specs.Prelude.{Ok}
 
 -- what the table's request lengths say of each function: the bytes that it reads are there
 abbrev pub Fitting : Function → (size : ℕ) → Type 0
@@ -47,6 +48,6 @@ answers index = looked_up Answers index table ((lit≤ tt, lit≤ tt), ((lit≤ 
 
 -- a request that passed the gate has the bytes that its function reads
 pub gate_fits : (w : Whole) (named revision index : ℕ) (request answer : List ℕ)
-    → verdict (gate_checks w named revision index request answer) ≡ Accepted → Fitting (row_of index).function (length request)
+    → verdict (gate_checks w named revision index request answer) ≡ Ok tt → Fitting (row_of index).function (length request)
 gate_fits w named revision index request answer e =
     fitting index request (not-false (fits? (row_of index) request) (passed (gate_checks w named revision index request answer) e).1.1.1.1.1.0)

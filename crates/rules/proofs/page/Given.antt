@@ -9,8 +9,10 @@ use Rattle.rules.specs.With.{◌with_phase◌, ◌with_current◌, ◌with_reaso
 use Rattle.rules.specs.Record.{fresh, possible, possible_transfer, possible_security, possible_thresholds, possible_reading, possible_parts, possible_trips, possible_cabinet, Whole, whole_of}
 use Rattle.rules.specs.{Refusals.verdict, Table.{row_of, fits?}, Cabinet.{call_result, reading_result}, Health.{new_reading, above, trips}}
 use Rattle.rules.specs.{Demand1.{refusal_numbers, Among, GivenBySome, reading_numbers, GivenByReading}, declared.Phase.Phase}
-use Rattle.rules.specs.{declared.Phase.TheVariants.{Idle, Receiving, Staged, Failed}, declared.Refusal.Refusal, declared.Verdict.Verdict}
-use Rattle.rules.specs.{declared.Verdict.TheVariants.{Accepted, Refused}, declared.Security.Security, declared.Device.Device}
+use Rattle.rules.specs.{declared.Phase.TheVariants.{Idle, Receiving, Staged, Failed}, declared.Refusal.Refusal}
+use Rattle.rules.specs.{declared.Security.Security, declared.Device.Device}
+use Rattle.rules.specs.Refusals.{Verdict}
+use Rattle.std.specs.Prelude.{Ok, Err}
 
 -- a call at revision 2: the cabinet that it finds, the module, the function, the request, the answer buffer
 record Witness : Type 0 where
@@ -62,24 +64,24 @@ witnesses =
     ∷ asked (secured (fresh.security with_enabled true)) 21 (replicate 32 1)
     ∷ []
 
-claim : map verdict_on witnesses ≡ map Refused refusal_numbers
+claim : map verdict_on witnesses ≡ map Err refusal_numbers
 unfolding zeros? same? possible possible_transfer possible_security possible_thresholds possible_reading possible_parts possible_trips possible_cabinet verdict row_of fits? call_result witnesses above trips
 claim = refl
 
 -- the first of a list, and the others
 abbrev first : List Verdict → Verdict
-first [] = Accepted
+first [] = Ok tt
 first (v ∷ vs) = v
 
 abbrev others : List Verdict → List Verdict
 others [] = []
 others (v ∷ vs) = vs
 
-each_of : (numbers : List Refusal) (ws : List Witness) → map verdict_on ws ≡ map Refused numbers → (refusal : Refusal) → Among numbers refusal → GivenBySome refusal
+each_of : (numbers : List Refusal) (ws : List Witness) → map verdict_on ws ≡ map Err numbers → (refusal : Refusal) → Among numbers refusal → GivenBySome refusal
 each_of [] ws e refusal a = absurd a
 each_of (number ∷ numbers) [] e refusal a = let n = ap length e in absurd (omega arith)
 each_of (number ∷ numbers) (w ∷ ws) e refusal (inl same) =
-    record { found = w.found; named = w.named; revision = 2; index = w.index; request = w.request; answer = w.answer; refused = ap first e ∙ ap Refused (sym same) }
+    record { found = w.found; named = w.named; revision = 2; index = w.index; request = w.request; answer = w.answer; refused = ap first e ∙ ap Err (sym same) }
 each_of (number ∷ numbers) (w ∷ ws) e refusal (inr a) = each_of numbers ws (ap others e) refusal a
 
 pub each_given : (refusal : Refusal) → Among refusal_numbers refusal → GivenBySome refusal
@@ -88,8 +90,8 @@ each_given refusal a = each_of refusal_numbers witnesses claim refusal a
 -- The same of a reading's numbers, by a spare of 101 each time, and of module 2 the first two times: R2 comes before R5, R5 before R3, and R3 before R4.
 pub each_by_reading : (refusal : Refusal) → Among reading_numbers refusal → GivenByReading refusal
 unfolding zeros? possible possible_transfer possible_security possible_thresholds possible_reading possible_parts possible_trips possible_cabinet verdict reading_result above trips
-each_by_reading refusal (inl same) = record { found = whole_of impossible.cabinet []; named = 2; new = new_reading 101 0 0; refused = ap Refused (sym same) }
-each_by_reading refusal (inr (inl same)) = record { found = impossible; named = 2; new = new_reading 101 0 0; refused = ap Refused (sym same) }
-each_by_reading refusal (inr (inr (inl same))) = record { found = impossible; named = 0; new = new_reading 101 0 0; refused = ap Refused (sym same) }
-each_by_reading refusal (inr (inr (inr (inl same)))) = record { found = in_phase Idle 0; named = 0; new = new_reading 101 0 0; refused = ap Refused (sym same) }
+each_by_reading refusal (inl same) = record { found = whole_of impossible.cabinet []; named = 2; new = new_reading 101 0 0; refused = ap Err (sym same) }
+each_by_reading refusal (inr (inl same)) = record { found = impossible; named = 2; new = new_reading 101 0 0; refused = ap Err (sym same) }
+each_by_reading refusal (inr (inr (inl same))) = record { found = impossible; named = 0; new = new_reading 101 0 0; refused = ap Err (sym same) }
+each_by_reading refusal (inr (inr (inr (inl same)))) = record { found = in_phase Idle 0; named = 0; new = new_reading 101 0 0; refused = ap Err (sym same) }
 each_by_reading refusal (inr (inr (inr (inr a)))) = absurd a

@@ -1,7 +1,7 @@
 -- Document 02, T-04: words compared by sign and size are in the order of the integers that they measure.
 -- Assumes nothing.
 use Prim.Native.Nat.{ℕ, zero, suc, ◌+◌, ◌<◌}
-use mathlib.Core.{Path.{◌≡◌, refl, sym, ◌∙◌, ap, subst}, Logic.◌↔◌, Bool.{Bool, true, false, ◌&&◌, false≢true}}
+use mathlib.Core.{Path.{◌≡◌, refl, sym, ◌∙◌, ap, subst}, Logic.◌↔◌, Bool.{Bool, true, false, ◌&&◌}}
 use native.Mathlib.Omega.{arith}
 use borrow.Author.Tests.{lt-ltb, le-ltb, ltb-true, ltb-false}
 use lib.{Dec.T, IntN.{ℤ, pos, neg_ℤ}, Signed.{lt_z, ◌<ℤ◌, lt_z_yes}}

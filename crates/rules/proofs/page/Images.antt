@@ -1,6 +1,6 @@
 -- Document 02, T-02: "What it writes is a good image, and reading the payload back gives the payload with its padding." And the other way round.
 -- Assumes nothing.
-use mathlib.Core.{Path.{◌≡◌, refl, sym, ◌∙◌, ap}, Bool.{Bool, true, false, not, ◌&&◌, true≢false}, List.{List, [], ◌∷◌, ◌++◌, append_assoc, append-nil}}
+use mathlib.Core.{Path.{◌≡◌, refl, sym, ◌∙◌, ap}, Bool.{Bool, true, false, not, ◌&&◌}, List.{List, [], ◌∷◌, ◌++◌, append_assoc, append-nil}}
 use Prim.Native.Nat.{ℕ, zero, suc, ◌≤◌, ◌<◌, ◌+◌, ◌-◌, ◌*◌, ◌^◌, ◌/◌}
 use native.Mathlib.Omega.{arith}
 use lib.{Dec.{leb, eqb}, ListN.{length, take, drop, length-append, length-drop, length-replicate, replicate-append-replicate, take-append-drop, drop_of_length-le}}
@@ -11,12 +11,14 @@ use Rattle.rules.specs.{Tests.{◌<?◌, ◌=?◌}, Bytes.{zeros, AreBytes}}
 use Rattle.rules.specs.Image.{most_records, payload_field, bytes_in, records_of, good_record, good_records, good_size, version_of, good_image}
 use Rattle.rules.specs.Fault.{image_of}
 use Rattle.rules.specs.Made.{parts_in, parts_of, first_part, made_record, made_records, made_image, carried, payload_of, making_of, reading_if, reading_of, MadeWell, PartsOf, Told, RequestT02}
-use Rattle.rules.specs.declared.{Image.Image, Image.TheVariants.{Good, Bad}, Making.TheVariants.{Made, VersionZero, PayloadOver128Records, OutputTooShort}}
-use Rattle.rules.specs.declared.ReadingBack.TheVariants.{Read, OutputTooShort as ReadTooShort}
 use Rattle.rules.proofs.page.Choice.{and_true}
 use Rattle.rules.proofs.page.Faults.{is_good}
 use Rattle.rules.proofs.page.Le.{take_bytes, drop_bytes, append_bytes, zeros_bytes}
 use Rattle.rules.proofs.page.Records.{made_long, made_good, made_bytes, version_in, part_in, record_again}
+use Rattle.rules.specs.Fault.{Image}
+use Rattle.rules.specs.declared.NotMade.TheVariants.{VersionZero, PayloadOver128Records, OutputTooShort}
+use Rattle.rules.specs.declared.NotRead.TheVariants.{OutputTooShort as ReadTooShort}
+use Rattle.std.specs.Prelude.{Ok, Err}
 
 -- a good size is 1 to 128 records
 pub record Sized (received : ℕ) : Type 0 where
@@ -122,7 +124,7 @@ version_of_made m n version payload fits =
 
 -- and so the image
 image_good : (n version : ℕ) (payload : List ℕ) → 1 ≤ n → n ≤ 128 → 1 ≤ version → version < 256 ^ 8
-    → image_of (made_records n 0 n version payload) ≡ Good version
+    → image_of (made_records n 0 n version payload) ≡ Ok version
 unfolding good_image
 image_good zero version payload some few one fits = absurd (omega (arith, some))
 image_good (suc m) version payload some few one fits =
@@ -296,7 +298,7 @@ pub record Known (image : List ℕ) (version : ℕ) : Type 0 where
   pub sized : Sized (length image)
   pub good : good_records (records_of image) 0 (records_of image) version image ≡ true
 
-pub known : (image : List ℕ) (version : ℕ) → image_of image ≡ Good version → Known image version
+pub known : (image : List ℕ) (version : ℕ) → image_of image ≡ Ok version → Known image version
 unfolding good_image
 known image version e =
     let good = (is_good image version).0 e in
@@ -307,7 +309,7 @@ known image version e =
       good = ap (λ (v : ℕ). good_records (records_of image) 0 (records_of image) v image) good.1 ∙ records.1;
     }
 
-made_again : (image : List ℕ) (version : ℕ) → AreBytes image → image_of image ≡ Good version → made_image (payload_of image) version ≡ image
+made_again : (image : List ℕ) (version : ℕ) → AreBytes image → image_of image ≡ Ok version → made_image (payload_of image) version ≡ image
 unfolding made_image payload_of
 made_again image version are e =
     let k = known image version e in
@@ -337,31 +339,31 @@ record Tells (size told room : ℕ) : Type 0 where
   fits : size ≤ room
 
 tells_made : (zero? over? : Bool) (size room : ℕ) (told : ℕ)
-    → (if zero? then VersionZero else if over? then PayloadOver128Records else if room <? size then OutputTooShort else Made size) ≡ Made told → Tells size told room
+    → (if zero? then Err VersionZero else if over? then Err PayloadOver128Records else if room <? size then Err OutputTooShort else Ok size) ≡ Ok told → Tells size told room
 tells_made true over? size room told e = let z : ◌≡◌ {A = ℕ} 0 1 = cc in absurd (omega arith)
 tells_made false true size room told e = let z : ◌≡◌ {A = ℕ} 0 1 = cc in absurd (omega arith)
 tells_made false false size room told e = go (room <? size) refl e
   where
-    go : (short : Bool) → (room <? size) ≡ short → (if short then OutputTooShort else Made size) ≡ Made told → Tells size told room
+    go : (short : Bool) → (room <? size) ≡ short → (if short then Err OutputTooShort else Ok size) ≡ Ok told → Tells size told room
     go true f g = let z : ◌≡◌ {A = ℕ} 0 1 = cc in absurd (omega arith)
     go false f g = let same : size ≡ told = cc in record { same = sym same; fits = ltb-false room size f }
 
-made_told : (version : ℕ) (payload output : List ℕ) (told : ℕ) → making_of version payload output ≡ Made told → Told told (made_image payload version) output
+made_told : (version : ℕ) (payload output : List ℕ) (told : ℕ) → making_of version payload output ≡ Ok told → Told told (made_image payload version) output
 unfolding making_of
 made_told version payload output told e =
     let t = tells_made (version =? 0) (most_records <? parts_of payload) (parts_of payload * 128) (length output) told e in
     record { its_length = t.same ∙ sym (made_size payload version); room = omega (arith, t.same, t.fits) }
 
-tells_read : (found : Image) (image output : List ℕ) (told : ℕ) → reading_if found image output ≡ Read told → Tells (records_of image * 112) told (length output)
-tells_read (Bad reason number) image output told e = let z : ◌≡◌ {A = ℕ} 0 1 = cc in absurd (omega arith)
-tells_read (Good version) image output told e = go (length output <? records_of image * 112) refl e
+tells_read : (found : Image) (image output : List ℕ) (told : ℕ) → reading_if found image output ≡ Ok told → Tells (records_of image * 112) told (length output)
+tells_read (Err fault) image output told e = let z : ◌≡◌ {A = ℕ} 0 1 = cc in absurd (omega arith)
+tells_read (Ok version) image output told e = go (length output <? records_of image * 112) refl e
   where
-    go : (short : Bool) → (length output <? records_of image * 112) ≡ short → (if short then ReadTooShort else Read (records_of image * 112)) ≡ Read told
+    go : (short : Bool) → (length output <? records_of image * 112) ≡ short → (if short then Err ReadTooShort else Ok (records_of image * 112)) ≡ Ok told
         → Tells (records_of image * 112) told (length output)
     go true f g = let z : ◌≡◌ {A = ℕ} 0 1 = cc in absurd (omega arith)
     go false f g = let same : records_of image * 112 ≡ told = cc in record { same = sym same; fits = ltb-false (length output) (records_of image * 112) f }
 
-read_told : (image output : List ℕ) (told : ℕ) → reading_of image output ≡ Read told → Told told (payload_of image) output
+read_told : (image output : List ℕ) (told : ℕ) → reading_of image output ≡ Ok told → Told told (payload_of image) output
 unfolding reading_of
 read_told image output told e =
     let t = tells_read (image_of image) image output told e in

@@ -2,17 +2,18 @@
 -- instance, with one clause for each kind of event; that it holds at the end of any history is proved once (histories/Gate.antt).
 -- Assumes nothing.
 use Prim.Native.Nat.{ℕ, ◌-◌, ◌≤◌, ◌<◌}
-use mathlib.Core.{Path.{◌≡◌, refl, sym, subst}, Bool.{Bool, true}, List.List}
+use mathlib.Core.{Path.{◌≡◌, refl, sym, subst}, Bool.{Bool, true}}
 use Rattle.rules.specs.{With.{◌with_ticks◌, ◌with_phase◌, ◌with_staged◌, ◌with_reason◌, ◌with_faulty◌}, Fault.reason_number, Record.has_area, Transfer.{TransferCall, received_bytes}}
-use Rattle.rules.specs.{declared.Phase.TheVariants.{Verifying, Staged, Failed}, declared.Transfer.Transfer, declared.Verdict.Verdict}
-use Rattle.rules.specs.declared.Verdict.TheVariants.{Accepted, Refused}
-use Rattle.rules.proofs.page.Split.{Seen, turned, taken, TransferPart, ◌with_part◌, part_of, part_verdict, part_change, part_after, part_tick, part_power, Doing, Transfers, Others, Powers, Reads, Act, Mine, Theirs, Ticks, does, nexts}
+use Rattle.rules.specs.{declared.Phase.TheVariants.{Verifying, Staged, Failed}, declared.Transfer.Transfer}
+use Rattle.rules.proofs.page.Split.{Seen, taken, TransferPart, ◌with_part◌, part_of, part_verdict, part_change, part_after, part_tick, part_power, Doing, Transfers, Others, Powers, Reads, Act, Mine, Theirs, Ticks, does, nexts}
 use Rattle.rules.proofs.{page.Faults.{Kept, bad_kept}, page.Facts.{Tick, calm, counting, good, bad, tick_case}}
+use Rattle.rules.specs.Refusals.{Verdict}
+use Rattle.std.specs.Prelude.{Ok, Err}
 
 -- what holds of a part and of its change by an accepted call holds after the call
-pub part_when : (P : TransferPart → Type 0) (v : Verdict) (s : TransferPart) (x : TransferCall) → P s → (v ≡ Accepted → P (part_change s x)) → P (part_after v s x)
-part_when P Accepted s x w f = f refl
-part_when P (Refused refusal) s x w f = w
+pub part_when : (P : TransferPart → Type 0) (v : Verdict) (s : TransferPart) (x : TransferCall) → P s → (v ≡ Ok tt → P (part_change s x)) → P (part_after v s x)
+part_when P (Ok tt) s x w f = f refl
+part_when P (Err refusal) s x w f = w
 
 -- by the four ways of a tick: nothing is verified; a tick more is left; it was the last, and the image is good; or bad
 pub by_tick : (P : TransferPart → Type 0) (s : TransferPart) → P s
@@ -36,7 +37,7 @@ pub record Apart (p q : TransferPart) : Type 0 where
   pub quiet : has_area p.transfer ≡ true → (q.given ≡ p.given) × (q.area ≡ p.area)
 
 pub record Invariant (P : TransferPart → Type 0) : Type 0 where
-  pub change : (k : Bool) (s : TransferPart) (a b : Bool) (x : TransferCall) → part_verdict k s a b x ≡ Accepted → P s → P (part_change s x)
+  pub change : (k : Bool) (s : TransferPart) (a b : Bool) (x : TransferCall) → part_verdict k s a b x ≡ Ok tt → P s → P (part_change s x)
   pub ticked : (s : TransferPart) → P s → P (part_tick s)
   pub powered : (s : TransferPart) → P s → P (part_power s)
   pub elsewhere : (s u : TransferPart) → Apart s u → P s → P u

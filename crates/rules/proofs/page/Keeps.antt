@@ -1,7 +1,7 @@
 -- Every act takes what a possible cabinet has to what a possible cabinet has: each module's two parts, and that only one module has the area. The facts; the theorems are in
 -- proofs/page/Possible.antt.
 -- Assumes nothing.
-use Prim.Native.Nat.{ℕ, ◌+◌, ◌-◌, ◌≤◌, ◌<◌}
+use Prim.Native.Nat.{ℕ, ◌-◌, ◌≤◌, ◌<◌}
 use mathlib.Core.{Path.{◌≡◌, refl, sym, ◌∙◌, ap, subst}, Bool.{Bool, true, false, not, ◌&&◌, ◌||◌}, List.{List, ◌∷◌, []}}
 use native.Mathlib.Omega.{arith}
 use lib.ListN.{length, length-append, length-take, length-drop}
@@ -12,11 +12,12 @@ use Rattle.rules.specs.{With.{◌with_ticks◌, ◌with_phase◌, ◌with_receiv
 use Rattle.rules.specs.{Record.{◌is◌, has_area, possible, possible_parts, possible_current, possible_numbers, possible_fault, possible_transfer, possible_security, possible_thresholds, possible_reading, possible_trips, current}, Refusals.{Check, ◌gives◌, verdict}}
 use Rattle.rules.specs.{Thresholds.{GetThreshold, SetThreshold}, Transfer.{TransferCall, GetFwInfo, Start, Send, Finish, Query, tick_change}}
 use Rattle.rules.specs.{Security.{SecurityCall, GetSecurityState, SetPassphrase, Disable, Unlock, Freeze, security_checks, wrong}, declared.Refusal.Refusal}
-use Rattle.rules.specs.{declared.Refusal.TheVariants.{R, Status}, declared.Verdict.TheVariants.{Accepted, Refused}, declared.Phase.Phase}
+use Rattle.rules.specs.{declared.Refusal.TheVariants.{R, Status}, declared.Phase.Phase}
 use Rattle.rules.specs.{declared.Phase.TheVariants.{Idle, Receiving, Verifying, Staged, Failed}, declared.Transfer.Transfer, declared.Security.Security, declared.Reading.Reading, declared.Device.Device}
 use Rattle.rules.proofs.page.Choice.{or_false, and_true, and_3, and_4, and_5, if_both}
-use Rattle.rules.proofs.page.Split.{Seen, turned, taken, TransferPart, ◌with_part◌, Rest, part_of, rest_of, RestCall, Masks, Healths, Limits, Locks, Nothing, Doing, Transfers, Others, Powers, Reads, Act, Mine, Theirs, Ticks, read_verdict, rest_read, part_verdict, part_change, part_tick, part_power, part_next, rest_after, rest_change, rest_checks, rest_next, rest_power, does, nexts}
+use Rattle.rules.proofs.page.Split.{Seen, turned, taken, TransferPart, ◌with_part◌, Rest, part_of, rest_of, RestCall, Masks, Healths, Limits, Locks, Nothing, Doing, Transfers, Others, Powers, Reads, Act, Mine, Theirs, Ticks, read_verdict, rest_read, part_verdict, part_change, part_tick, part_power, rest_after, rest_change, rest_checks, rest_next, rest_power, does, nexts}
 use Rattle.rules.proofs.{page.Through.mild, page.Faults.Kept, page.Facts.{never, start_ok, send_ok, finish_ok}, page.Invariant.{by_tick, part_when, Apart}}
+use Rattle.std.specs.Prelude.{Ok, Err}
 
 -- the transfer's part, phase by phase
 abbrev pub PhaseOk : Phase → Transfer → Type 0
@@ -126,7 +127,7 @@ at_phase p t e h = subst (λ (q : Phase). PhaseOk q t) e h
 fault_at_law : (p : Phase) (t : Transfer) → t.phase ≡ p → FaultOk t.phase t → FaultOk p t
 fault_at_law p t e h = subst (λ (q : Phase). FaultOk q t) e h
 
-part_change_law : (k : Bool) (s : TransferPart) (a b : Bool) (x : TransferCall) → part_verdict k s a b x ≡ Accepted → PartOk s → PartOk (part_change s x)
+part_change_law : (k : Bool) (s : TransferPart) (a b : Bool) (x : TransferCall) → part_verdict k s a b x ≡ Ok tt → PartOk s → PartOk (part_change s x)
 part_change_law k s a b GetFwInfo v w = w
 part_change_law k s a b Start v w =
     let o = start_ok k s a b v in
@@ -193,7 +194,7 @@ record Given (s u : TransferPart) : Type 0 where
 same_given : (s : TransferPart) → Given s s
 same_given s = record { more = omega arith; fit = λ l. l }
 
-given_change : (k : Bool) (s : TransferPart) (a b : Bool) (x : TransferCall) → part_verdict k s a b x ≡ Accepted → Given s (part_change s x)
+given_change : (k : Bool) (s : TransferPart) (a b : Bool) (x : TransferCall) → part_verdict k s a b x ≡ Ok tt → Given s (part_change s x)
 given_change k s a b GetFwInfo v = same_given s
 given_change k s a b Start v = let n = (start_ok k s a b v).left in record { more = omega arith; fit = λ l. omega (arith, l) }
 given_change k s a b (Send context offset size piece) v = record { more = omega arith; fit = λ l. l }
@@ -218,7 +219,7 @@ pub record RestOk (r : Rest) : Type 0 where
   pub true_byte : r.trips ≡ trips r.thresholds r.reading
 
 -- row by row: a row whose refusal is no wrong passphrase
-peel : (t : Bool) (refusal : Refusal) (rows : List Check) (r : Rest) (x : RestCall) → mild (Refused refusal) ≡ true → RestOk r → (t ≡ false → RestOk (rest_after (verdict rows) r x))
+peel : (t : Bool) (refusal : Refusal) (rows : List Check) (r : Rest) (x : RestCall) → mild (Err refusal) ≡ true → RestOk r → (t ≡ false → RestOk (rest_after (verdict rows) r x))
     → RestOk (rest_after (verdict ((t gives refusal) ∷ rows)) r x)
 unfolding verdict
 peel false refusal rows r x n w f = f refl
@@ -299,7 +300,7 @@ rest_does s Powers w =
 rest_does s (Reads new) w = read_next (rest_of s) new (100 <? new.spare) refl w
 
 -- at most one has the area: after what a module does
-one_change : (k : Bool) (s : TransferPart) (a b : Bool) (x : TransferCall) → part_verdict k s a b x ≡ Accepted → (has_area s.transfer && k) ≡ false
+one_change : (k : Bool) (s : TransferPart) (a b : Bool) (x : TransferCall) → part_verdict k s a b x ≡ Ok tt → (has_area s.transfer && k) ≡ false
     → (has_area (part_change s x).transfer && k) ≡ false
 one_change k s a b GetFwInfo v o = o
 one_change k s a b Start v o = (start_ok k s a b v).free
@@ -339,14 +340,14 @@ one_tick t u area o = go (has_area t) refl o
     go false e n = ap (λ (c : Bool). c && has_area (tick_change u area)) (tick_area t area e)
 
 -- the whole: both modules' parts
-pub record Ok (s : Seen) : Type 0 where
+pub record SeenOk (s : Seen) : Type 0 where
   pub part : PartOk (part_of s)
   pub rests : RestOk (rest_of s)
   pub other_part : PartOk (part_of (turned s))
   pub other_rests : RestOk (rest_of (turned s))
   pub one : (has_area s.own.transfer && taken s) ≡ false
 
-pub turn_ok : (s : Seen) → Ok s → Ok (turned s)
+pub turn_ok : (s : Seen) → SeenOk s → SeenOk (turned s)
 turn_ok s w =
     record {
       part = w.other_part;
@@ -366,7 +367,7 @@ other_does s (Reads new) = refl
 beside : (s u : TransferPart) (area : List ℕ) → s.given ≤ u.given → length area ≡ area_size → PartOk s → PartOk (record { transfer = s.transfer; given = u.given; area = area })
 beside s u area l size w = record { within = w.within; fault = w.fault; in_phase_law = w.in_phase_law; known = omega (arith, w.known, l); size = size }
 
-ok_does : (s : Seen) (d : Doing) → Ok s → Ok (does s d)
+ok_does : (s : Seen) (d : Doing) → SeenOk s → SeenOk (does s d)
 ok_does s d w =
     let p = part_does s d w.part in
     let o = other_does s d in
@@ -381,7 +382,7 @@ ok_does s d w =
       one = one_does s d w.one;
     }
 
-pub ok_next : (s : Seen) (f : Act) → Ok s → Ok (nexts s f)
+pub ok_next : (s : Seen) (f : Act) → SeenOk s → SeenOk (nexts s f)
 ok_next s (Mine d) w = ok_does s d w
 ok_next s (Theirs d) w = turn_ok (does (turned s) d) (ok_does (turned s) d (turn_ok s w))
 ok_next s Ticks w =
@@ -404,7 +405,7 @@ more_next s (Theirs d) = (given_does (turned s) d).more
 more_next s Ticks = omega arith
 
 -- what the other module does leaves a module apart
-quiet_change : (k : Bool) (s : TransferPart) (a b : Bool) (x : TransferCall) → part_verdict k s a b x ≡ Accepted → (has_area s.transfer && k) ≡ false → k ≡ true
+quiet_change : (k : Bool) (s : TransferPart) (a b : Bool) (x : TransferCall) → part_verdict k s a b x ≡ Ok tt → (has_area s.transfer && k) ≡ false → k ≡ true
     → ((part_change s x).given ≡ s.given) × ((part_change s x).area ≡ s.area)
 quiet_change k s a b GetFwInfo v o e = (refl, refl)
 quiet_change k s a b Start v o e = never (sym e ∙ (start_ok k s a b v).free)
@@ -421,7 +422,7 @@ quiet_does s (Others a b x n answer) o e = (refl, refl)
 quiet_does s Powers o e = (refl, refl)
 quiet_does s (Reads new) o e = (refl, refl)
 
-pub apart : (s : Seen) → Ok s → (d : Doing) → Apart (part_of s) (part_of (nexts s (Theirs d)))
+pub apart : (s : Seen) → SeenOk s → (d : Doing) → Apart (part_of s) (part_of (nexts s (Theirs d)))
 apart s w d =
     record {
       same = ap (λ (z : Device). z.transfer) (other_does (turned s) d);

@@ -6,8 +6,10 @@ use Rattle.std.specs.Prelude.{if◌then◌else◌}
 use Rattle.rules.specs.{Tests.{◌=?◌}, Record.{Whole, Module, device_of, with_device_at, standing}, Refusals.{verdict, tick_checks, event_checks, one_attempt_more}, Table.row_of, Beside.{last_reading, LastKept}}
 use Rattle.rules.specs.Module.{Call, OnMask, OnHealth, OnThresholds, OnTransfer, OnSecurity, OnNothing, call_in, change, device_powered, device_keeping}
 use Rattle.rules.specs.Cabinet.{call, tick, power, reading, outcome, ticked, powered, kept, happened, call_checks, reading_checks, call_result, tick_result, power_result, reading_result}
-use Rattle.rules.specs.{declared.Refusal.TheVariants.{R, Status}, declared.Verdict.Verdict, declared.Verdict.TheVariants.{Accepted, Refused}, declared.Device.Device, declared.Cabinet.Cabinet, declared.Reading.Reading}
+use Rattle.rules.specs.{declared.Refusal.TheVariants.{R, Status}, declared.Device.Device, declared.Cabinet.Cabinet, declared.Reading.Reading}
 use Rattle.rules.proofs.{page.Passed.passed, page.Through.mine_named}
+use Rattle.rules.specs.Refusals.{Verdict}
+use Rattle.std.specs.Prelude.{Ok, Err}
 
 -- a record in a module's place: where it has that module's reading, each module has its own still
 in_place : (o z : Bool) (d first second : Device) → d.reading ≡ (if z then first else second).reading
@@ -34,16 +36,16 @@ change_reading m OnNothing = refl
 
 outcome_reading : (v : Verdict) (own : ℕ) (w : Whole) (named : ℕ) (c : Call) (n : ℕ) (answer : List ℕ)
     → (device_of own (outcome v w named c n answer).after.cabinet).reading ≡ (device_of own w.cabinet).reading
-outcome_reading Accepted own w named c n answer =
+outcome_reading (Ok tt) own w named c n answer =
     in_place (own =? 0) (named =? 0) (change (standing named w) c).device w.cabinet.first w.cabinet.second (change_reading (standing named w) c)
-outcome_reading (Refused (R number)) own w named c n answer = refl
-outcome_reading (Refused (Status status ext)) own w named c n answer = left_reading (status =? 11) own named w.cabinet
+outcome_reading (Err (R number)) own w named c n answer = refl
+outcome_reading (Err (Status status ext)) own w named c n answer = left_reading (status =? 11) own named w.cabinet
 
 -- so do a tick and a power cycle
 happened_reading : (v : Verdict) (own : ℕ) (changed was : Whole) → (device_of own changed.cabinet).reading ≡ (device_of own was.cabinet).reading
     → (device_of own (happened v changed was).after.cabinet).reading ≡ (device_of own was.cabinet).reading
-happened_reading Accepted own changed was e = e
-happened_reading (Refused refusal) own changed was e = refl
+happened_reading (Ok tt) own changed was e = e
+happened_reading (Err refusal) own changed was e = refl
 
 ticked_reading : (o : Bool) (w : Whole)
     → (if o then (ticked w).cabinet.first else (ticked w).cabinet.second).reading ≡ (if o then w.cabinet.first else w.cabinet.second).reading
@@ -61,10 +63,10 @@ kept_there false false new c = refl
 
 after_reading : (v : Verdict) (own : ℕ) (w : Whole) (named : ℕ) (new : Reading) → own ≤ 1 → verdict (reading_checks w named new) ≡ v
     → (device_of own (happened v (kept w named new) w).after.cabinet).reading ≡ last_reading own w (reading named new) (happened v (kept w named new) w).reply.verdict
-after_reading Accepted own w named new l e =
+after_reading (Ok tt) own w named new l e =
     kept_there (own =? 0) (named =? 0) new w.cabinet
     ∙ ap (λ (mine : Bool). if mine then new else (device_of own w.cabinet).reading) (mine_named own named l (passed (reading_checks w named new) e).1.0)
-after_reading (Refused refusal) own w named new l e = refl
+after_reading (Err refusal) own w named new l e = refl
 
 pub last_kept : LastKept
 unfolding call_result tick_result power_result reading_result

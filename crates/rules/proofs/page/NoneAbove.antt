@@ -1,7 +1,7 @@
 -- Document 02, T-01: "exactly if some count would pass 4,294,967,295": the test of a report is that none of its numbers is above.
 -- Assumes nothing.
 use Prim.Native.Nat.{ℕ, zero, suc, ◌≤◌}
-use mathlib.Core.{Path.{◌≡◌, refl}, Logic.◌↔◌, Bool.{true, ◌&&◌}, List.{List, [], ◌∷◌}}
+use mathlib.Core.{Path.{◌≡◌, refl}, Logic.◌↔◌, Bool.{true}, List.{List, [], ◌∷◌}}
 use native.Mathlib.Omega.{arith}
 use lib.ListN.{get_or}
 use borrow.Author.Tests.{leb-true, le-leb}

@@ -5,19 +5,21 @@ use Prim.Native.Nat.{ℕ, ◌≤◌}
 use lib.ListN.{length}
 use borrow.Author.Tests.{eqb-true, leb-true, ltb-false, not-false}
 use Rattle.rules.specs.{Tests.{◌≤?◌, ◌<?◌, ◌=?◌, ◌implies◌, ◌unless◌}, Bytes.zeros?, Numbers.{area_size, answer_room, verification, attempt_limit}}
-use Rattle.rules.specs.Record.{◌is◌, current, possible, possible_numbers, possible_fault, possible_transfer, possible_security, possible_thresholds, possible_reading, possible_parts, possible_trips, possible_cabinet, possible_current, has_area, Whole, device_of}
+use Rattle.rules.specs.Record.{◌is◌, possible, possible_numbers, possible_fault, possible_transfer, possible_security, possible_thresholds, possible_reading, possible_parts, possible_trips, possible_cabinet, possible_current, has_area, Whole, device_of}
 use Rattle.rules.specs.{Refusals.{Check, verdict, R1Check, tick_checks, event_checks}, declared.Phase.TheVariants.{Idle, Verifying, Staged}}
-use Rattle.rules.specs.{declared.Refusal.TheVariants.{R, Status}, declared.Verdict.Verdict, declared.Verdict.TheVariants.{Accepted, Refused}}
+use Rattle.rules.specs.{declared.Refusal.TheVariants.{R, Status}}
 use Rattle.rules.specs.declared.{Device.Device, Cabinet.Cabinet}
 use Rattle.rules.proofs.{page.Choice.{and_true, and_3, and_4, and_5, if_both}, page.Passed.{NotBy, past_rows, passed}}
+use Rattle.rules.specs.Refusals.{Verdict}
+use Rattle.std.specs.Prelude.{Ok, Err}
 
 -- the verdict is no R number
 abbrev pub NoR : Verdict → Type 0
-NoR Accepted = Unit {0}
-NoR (Refused (R number)) = ⊥
-NoR (Refused (Status status ext)) = Unit {0}
+NoR (Ok tt) = Unit {0}
+NoR (Err (R number)) = ⊥
+NoR (Err (Status status ext)) = Unit {0}
 
-other_than : (number : ℕ) (v : Verdict) → NoR v → v ≡ Refused (R number) → ⊥
+other_than : (number : ℕ) (v : Verdict) → NoR v → v ≡ Err (R number) → ⊥
 other_than number v n e = subst NoR e n
 
 -- the checks of a tick have passed: the area is whole, and the cabinet possible
@@ -25,7 +27,7 @@ pub record EventPassed (w : Whole) : Type 0 where
   pub whole : length w.area ≡ area_size
   pub sound : possible_cabinet w.cabinet ≡ true
 
-pub tick_passed : (w : Whole) → verdict (tick_checks w) ≡ Accepted → EventPassed w
+pub tick_passed : (w : Whole) → verdict (tick_checks w) ≡ Ok tt → EventPassed w
 tick_passed w e =
     let q = passed (tick_checks w) e in
     record { whole = eqb-true (length w.area) area_size (not-false _ q.0); sound = not-false (possible_cabinet w.cabinet) q.1.0 }

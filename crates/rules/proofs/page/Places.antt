@@ -1,10 +1,10 @@
 -- Document 02, T-06: the laws of bytes that are compared, by parts and by places.
 -- Assumes nothing.
-use Prim.Native.Nat.{ℕ, zero, suc, ◌+◌, ◌-◌, ◌*◌, ◌/◌, ◌≤◌, ◌<◌}
+use Prim.Native.Nat.{ℕ, zero, suc, ◌+◌, ◌*◌, ◌≤◌, ◌<◌}
 use mathlib.Core.{Path.{◌≡◌, refl, sym, ◌∙◌, ap}, Bool.{Bool, true, false, not, ◌&&◌, ◌||◌, false≢true}, List.{List, [], ◌∷◌, ◌++◌}}
-use native.Mathlib.{Nat.add_comm, Omega.arith}
+use native.Mathlib.{Omega.arith}
 use borrow.Author.Tests.{eq-eqb, eqb-true}
-use lib.{Dec.eqb, ListN.{length, take, drop, length-take}, Seq.{take_all, take-add, drop-drop, length-take-le}}
+use lib.{Dec.eqb, ListN.{length, take, drop, length-take}, Seq.{take_all, take-add, drop-drop}}
 use Rattle.rules.specs.{Tests.◌=?◌, Bytes.same?, Log.record_at, Compare.{compared, places_in, equal_at, fields_differing, any?}}
 
 and_assoc : (a b c : Bool) → ((a && b) && c) ≡ (a && (b && c))

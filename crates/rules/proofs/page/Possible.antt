@@ -2,15 +2,16 @@
 -- no R number is given but R1, for a short answer buffer, R5, for a module over 1, and R4, for a reading over 100.
 -- Assumes nothing.
 use Prim.Native.Nat.{ℕ, ◌≤◌}
-use mathlib.Core.{Path.{◌≡◌, refl, sym, ap, ◌∙◌, subst}, Bool.{Bool, true, false, not, ◌&&◌, ◌||◌, false≢true}, Logic.{◌⊎◌, inl, inr}, List.List}
+use mathlib.Core.{Path.{◌≡◌, refl, sym, ap, ◌∙◌, subst}, Bool.{Bool, true, false, not, ◌&&◌, ◌||◌, false≢true}, Logic.{inl, inr}, List.List}
 use native.Mathlib.Omega.{arith}
 use lib.ListN.{length}
-use borrow.Author.Tests.{eq-eqb, not-true, not-false}
+use borrow.Author.Tests.{eq-eqb, not-true}
 use Rattle.rules.specs.{Tests.◌=?◌, Bytes.zeros?, Numbers.{area_size, last_context}, Record.{has_area, fresh_cabinet, possible, possible_transfer, possible_security, possible_thresholds, possible_reading, possible_parts, possible_trips, possible_cabinet, Whole}}
-use Rattle.rules.specs.{Cabinet.{Event, call, tick, power, reading, step}, Transfers.machine, Demand3.{fresh_with, Sound}, declared.Refusal.TheVariants.R, declared.Verdict.TheVariants.Refused}
+use Rattle.rules.specs.{Cabinet.{Event, call, tick, power, reading, step}, Transfers.machine, Demand3.{fresh_with, Sound}, declared.Refusal.TheVariants.R}
 use Rattle.rules.specs.{Demand1.{buffer_too_short, module_over1, spare_over100, MayGive}, Health.{above, trips}, declared.Cabinet.Cabinet}
-use Rattle.rules.proofs.{page.Split.{Seen, seen_from, turned, part_of, rest_of, Act, act, nexts}, page.Through.{no_R, Through, through, stopped, gate_no_R, reading_verdict, shut, over}}
-use Rattle.rules.proofs.{page.Keeps.{PartOk, Ok, turn_ok, ok_next, fit_next, ok_possible, possible_ok}, page.Choice.{and_3, or_false}}
+use Rattle.rules.proofs.{page.Split.{Seen, seen_from, Act, act, nexts}, page.Through.{no_R, Through, through, stopped, gate_no_R, reading_verdict, shut, over}}
+use Rattle.rules.proofs.{page.Keeps.{SeenOk, turn_ok, ok_next, fit_next, ok_possible, possible_ok}, page.Choice.{and_3}}
+use Rattle.std.specs.Prelude.{Err}
 
 -- "Fresh" is possible.
 pub possible_fresh : possible_cabinet fresh_cabinet ≡ true
@@ -18,7 +19,7 @@ unfolding possible possible_transfer possible_security possible_thresholds possi
 possible_fresh = refl
 
 -- a possible cabinet, seen from either module, is as it should be; and the other way
-ok_cabinet : (w : Whole) → possible_cabinet w.cabinet ≡ true → length w.area ≡ area_size → Ok (seen_from true w)
+ok_cabinet : (w : Whole) → possible_cabinet w.cabinet ≡ true → length w.area ≡ area_size → SeenOk (seen_from true w)
 unfolding possible_cabinet
 ok_cabinet w e l =
     let c : Cabinet = w.cabinet in
@@ -27,11 +28,11 @@ ok_cabinet w e l =
     let second = possible_ok (seen_from false w) q.1 l in
     record { part = first.0; rests = first.1; other_part = second.0; other_rests = second.1; one = not-true _ q.2 }
 
-pub to_ok : (first : Bool) (w : Whole) → possible_cabinet w.cabinet ≡ true → length w.area ≡ area_size → Ok (seen_from first w)
+pub to_ok : (first : Bool) (w : Whole) → possible_cabinet w.cabinet ≡ true → length w.area ≡ area_size → SeenOk (seen_from first w)
 to_ok true w e l = ok_cabinet w e l
 to_ok false w e l = turn_ok (seen_from true w) (ok_cabinet w e l)
 
-possible_first : (w : Whole) → Ok (seen_from true w) → possible_cabinet w.cabinet ≡ true
+possible_first : (w : Whole) → SeenOk (seen_from true w) → possible_cabinet w.cabinet ≡ true
 unfolding possible_cabinet
 possible_first w o =
     rw (
@@ -40,13 +41,13 @@ possible_first w o =
       o.one,
     )
 
-pub from_ok : (first : Bool) (w : Whole) → Ok (seen_from first w) → possible_cabinet w.cabinet ≡ true
+pub from_ok : (first : Bool) (w : Whole) → SeenOk (seen_from first w) → possible_cabinet w.cabinet ≡ true
 from_ok true w o = possible_first w o
 from_ok false w o = possible_first w (turn_ok (seen_from false w) o)
 
 -- the two together, with the width of contexts
 pub record Fine (s : Seen) : Type 0 where
-  pub ok : Ok s
+  pub ok : SeenOk s
   pub fit : s.given ≤ last_context
 
 pub sound_fine : (first : Bool) (w : Whole) → Sound w → Fine (seen_from first w)
@@ -71,13 +72,13 @@ stopped_same w event size e = go (buffer_too_short event) refl (module_over1 eve
 pub sound_through : (first : Bool) (w : Whole) (event : Event) → Sound w → stopped event ≡ false → Through first w event
 sound_through first w event s e = through first w event e (eq-eqb (length w.area) area_size s.area_size_law) s.record_possible
 
-ok_step : (w : Whole) (event : Event) → possible_cabinet w.cabinet ≡ true → length w.area ≡ area_size → Ok (seen_from true (machine.next w event))
+ok_step : (w : Whole) (event : Event) → possible_cabinet w.cabinet ≡ true → length w.area ≡ area_size → SeenOk (seen_from true (machine.next w event))
 ok_step w event p l = go (stopped event) refl
   where
-    go : (b : Bool) → stopped event ≡ b → Ok (seen_from true (machine.next w event))
-    go true e = subst (λ (u : Whole). Ok (seen_from true u)) (sym (stopped_same w event l e)) (to_ok true w p l)
+    go : (b : Bool) → stopped event ≡ b → SeenOk (seen_from true (machine.next w event))
+    go true e = subst (λ (u : Whole). SeenOk (seen_from true u)) (sym (stopped_same w event l e)) (to_ok true w p l)
     go false e =
-        subst (λ (u : Seen). Ok u) (sym (through true w event e (eq-eqb (length w.area) area_size l) p).nexts_as) (ok_next (seen_from true w) (act true event) (to_ok true w p l))
+        subst (λ (u : Seen). SeenOk u) (sym (through true w event e (eq-eqb (length w.area) area_size l) p).nexts_as) (ok_next (seen_from true w) (act true event) (to_ok true w p l))
 
 -- Every event takes a possible cabinet to a possible one.
 pub possible_next : (w : Whole) (event : Event) → possible_cabinet w.cabinet ≡ true → length w.area ≡ area_size → possible_cabinet (step w event).after.cabinet ≡ true
@@ -89,7 +90,7 @@ area_next w event p l = (ok_step w event p l).part.size
 
 -- a reading over 100 is refused by R4
 over_R4 : (w : Whole) (event : Event) → possible_cabinet w.cabinet ≡ true → length w.area ≡ area_size → module_over1 event ≡ false → spare_over100 event ≡ true
-    → (step w event).reply.verdict ≡ Refused (R 4)
+    → (step w event).reply.verdict ≡ Err (R 4)
 over_R4 w (call host named revision index request answer) p l o e = absurd (false≢true e)
 over_R4 w tick p l o e = absurd (false≢true e)
 over_R4 w (power named) p l o e = absurd (false≢true e)
@@ -97,7 +98,7 @@ over_R4 w (reading named new) p l o e = reading_verdict w named new true e o (eq
 
 -- R2 and R3 are never given; R1 only to a call with a short answer buffer, R5 only to an event that names a module over 1, R4 only to a reading over 100.
 pub no_other_R : (w : Whole) (event : Event) (number : ℕ) → possible_cabinet w.cabinet ≡ true → length w.area ≡ area_size
-    → (step w event).reply.verdict ≡ Refused (R number) → MayGive number event
+    → (step w event).reply.verdict ≡ Err (R number) → MayGive number event
 no_other_R w event number p l r = go (buffer_too_short event) refl (module_over1 event) refl (spare_over100 event) refl
   where
     size : (length w.area =? area_size) ≡ true

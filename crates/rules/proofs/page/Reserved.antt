@@ -1,6 +1,6 @@
 -- Document 02, T-05: reserved bits and bytes are judged before any other field; and an accepted Set Threshold has no bit for the mask to clear.
 -- Assumes nothing.
-use Prim.Native.Nat.{ℕ, ◌*◌, ◌/◌, ◌%◌, ◌^◌, ◌≤◌, ◌<◌}
+use Prim.Native.Nat.{ℕ, ◌/◌, ◌%◌, ◌^◌, ◌≤◌, ◌<◌}
 use mathlib.Core.{Path.{◌≡◌, refl}, Bool.{Bool, true, false}}
 use native.Mathlib.{Omega.arith, Nat.{div-lt_iff_lt-mul, pow-le-pow_right}}
 use borrow.Author.Tests.{lt-ltb, le-ltb, ltb-true, ltb-false, eqb-true}

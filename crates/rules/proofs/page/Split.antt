@@ -10,8 +10,10 @@ use Rattle.rules.specs.{Thresholds.{ThresholdCall, threshold_checks, threshold_a
 use Rattle.rules.specs.Transfer.{TransferCall, transfer_checks, transfer_answer, transfer_change, given_after, transfer_area, tick_change, transfer_power}
 use Rattle.rules.specs.{Security.{SecurityCall, security_checks, security_answer, security_change, security_power}, Record.{has_area, Whole}}
 use Rattle.rules.specs.{Module.{Call, OnMask, OnHealth, OnThresholds, OnTransfer, OnSecurity, OnNothing, call_in, trips_after, device_ticked}, History.Machine}
-use Rattle.rules.specs.{Cabinet.{Event, call, tick, power, reading, reply}, Transfers.{Answer, Kind, Ticked, Powered, Other, call_kind}, declared.Refusal.TheVariants.{R, Status}, declared.Verdict.Verdict}
-use Rattle.rules.specs.{declared.Verdict.TheVariants.{Accepted, Refused}, declared.Transfer.Transfer, declared.Thresholds.Thresholds, declared.Security.Security, declared.Reading.Reading, declared.Device.Device}
+use Rattle.rules.specs.{Cabinet.{Event, call, tick, power, reading, reply}, Transfers.{Answer, Kind, Ticked, Powered, Other, call_kind}, declared.Refusal.TheVariants.{R, Status}}
+use Rattle.rules.specs.{declared.Transfer.Transfer, declared.Thresholds.Thresholds, declared.Security.Security, declared.Reading.Reading, declared.Device.Device}
+use Rattle.rules.specs.Refusals.{Verdict}
+use Rattle.std.specs.Prelude.{Ok, Err}
 
 -- the cabinet, seen from one of its modules
 pub record Seen : Type 0 where
@@ -141,10 +143,10 @@ front a b = (a gives Status 1 0) ∷ (b gives Status 3 0) ∷ []
 
 -- what a verdict answers
 abbrev pub answer_by : Verdict → (n : ℕ) (bytes answer : List ℕ) → Answer
-answer_by Accepted n bytes answer = record { reply = reply Accepted n; buffer = answer_after bytes answer }
-answer_by (Refused (R number)) n bytes answer = record { reply = reply (Refused (R number)) 0; buffer = answer }
-answer_by (Refused (Status status ext)) n bytes answer =
-    record { reply = reply (Refused (Status status ext)) (status_length status n); buffer = answer_after (status_answer status ext n) answer }
+answer_by (Ok tt) n bytes answer = record { reply = reply (Ok tt) n; buffer = answer_after bytes answer }
+answer_by (Err (R number)) n bytes answer = record { reply = reply (Err (R number)) 0; buffer = answer }
+answer_by (Err (Status status ext)) n bytes answer =
+    record { reply = reply (Err (Status status ext)) (status_length status n); buffer = answer_after (status_answer status ext n) answer }
 
 -- a transfer call, where the area is taken or not
 abbrev pub part_verdict : (taken : Bool) → TransferPart → (unserved misfit : Bool) → TransferCall → Verdict
@@ -155,8 +157,8 @@ part_change p x =
     record { transfer = transfer_change p.transfer p.given x; given = given_after p.given x; area = transfer_area x p.area }
 
 abbrev pub part_after : Verdict → TransferPart → TransferCall → TransferPart
-part_after Accepted p x = part_change p x
-part_after (Refused refusal) p x = p
+part_after (Ok tt) p x = part_change p x
+part_after (Err refusal) p x = p
 
 abbrev pub part_answer : (taken : Bool) → TransferPart → (unserved misfit : Bool) (x : TransferCall) (n : ℕ) (answer : List ℕ) → Answer
 part_answer k p a b x n answer = answer_by (part_verdict k p a b x) n (status_bytes 0 0 ++ transfer_answer p.transfer p.given x) answer
@@ -197,9 +199,9 @@ abbrev pub rest_missed : Rest → Rest
 rest_missed r = record { thresholds = r.thresholds; security = r.security with_attempts (r.security.attempts + 1); reading = r.reading; trips = r.trips }
 
 abbrev pub rest_after : Verdict → Rest → RestCall → Rest
-rest_after Accepted r x = rest_change r x
-rest_after (Refused (R number)) r x = r
-rest_after (Refused (Status status ext)) r x = if status =? 11 then rest_missed r else r
+rest_after (Ok tt) r x = rest_change r x
+rest_after (Err (R number)) r x = r
+rest_after (Err (Status status ext)) r x = if status =? 11 then rest_missed r else r
 
 unfoldable pub rest_answer : Rest → (unserved misfit : Bool) (x : RestCall) (n : ℕ) (answer : List ℕ) → Answer
 rest_answer r a b x n answer = answer_by (verdict (front a b ++ rest_checks r x)) n (rest_bytes r x) answer
@@ -215,14 +217,14 @@ abbrev pub read_verdict : Reading → Verdict
 read_verdict new = verdict (R4Check new ∷ [])
 
 abbrev pub rest_read : Verdict → Rest → Reading → Rest
-rest_read Accepted r new = record { thresholds = r.thresholds; security = r.security; reading = new; trips = trips r.thresholds new }
-rest_read (Refused refusal) r new = r
+rest_read (Ok tt) r new = record { thresholds = r.thresholds; security = r.security; reading = new; trips = trips r.thresholds new }
+rest_read (Err refusal) r new = r
 
 abbrev pub read_answer : Verdict → Answer
 read_answer v = record { reply = reply v 0; buffer = [] }
 
 abbrev pub done : Answer
-done = record { reply = reply Accepted 0; buffer = [] }
+done = record { reply = reply (Ok tt) 0; buffer = [] }
 
 -- what a module answers and does
 abbrev pub told : Seen → Doing → Answer

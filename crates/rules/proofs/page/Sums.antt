@@ -13,12 +13,15 @@ use Rattle.rules.specs.{Replay.{replay_start, replay_call, whole_after, printed_
 use Rattle.rules.specs.Report.{Report, nothing_counted, Counted, answered, masked, counted_as, raised_at, raised_cell, raised, report_after, count_to, if_call, if_tick, if_power, if_bad, grid_sum, Sums, added_row, added_grid, with_log, fits, fed_if, feed, fed_next, AllTaken, report_of, ◌plus◌, Reported, NoneAbove, RequestT01, if_reading}
 use Rattle.rules.specs.declared.Function.{Function}
 use Rattle.rules.specs.declared.Function.TheVariants.{Mask, GetHealth, GetThreshold, GetFwInfo, Start, Send, Finish, Query, SetThreshold, GetSecurityState, SetPassphrase, Disable, Unlock, Freeze, Unserved}
-use Rattle.rules.specs.{declared.Refusal.TheVariants.{R, Status}, declared.Verdict.Verdict, declared.Verdict.TheVariants.{Accepted, Refused}}
+use Rattle.rules.specs.{declared.Refusal.TheVariants.{R, Status}}
 use Rattle.rules.specs.declared.Entry.{Entry}
 use Rattle.rules.proofs.{page.Choice.{and_true, and_5}, page.Passed.{every, by_rows}, page.Counting.{Shaped, shaped_nothing, shaped_after, counted, shaped_log}}
 use Rattle.rules.proofs.page.Reports.{taken_report, fits_taken, together, shaped_together, is_together, any_order, each_list, two_lists, two_machines}
 use Rattle.rules.proofs.page.NoneAbove.{fits_exactly}
 use Rattle.rules.specs.declared.Entry.TheVariants as Entry'
+use Rattle.rules.specs.Refusals.{Verdict}
+use Rattle.std.specs.Prelude.{Ok, Err}
+use Rattle.rules.specs.Health.{new_reading}
 
 -- the host of a good call record is 1 to 4
 pub record GoodHost (host : ℕ) : Type 0 where
@@ -32,7 +35,7 @@ unfoldable pub hosts_of : Entry → Type 0
 hosts_of (Entry'.Call named host revision index size) = GoodHost host
 hosts_of Entry'.Tick = Unit {0}
 hosts_of (Entry'.Power named) = Unit {0}
-hosts_of (Entry'.Health named spare media controller) = Unit {0}
+hosts_of (Entry'.Health named new) = Unit {0}
 hosts_of Entry'.Bad = Unit {0}
 
 pub good_hosts : (bytes : List ℕ) → hosts_of (entry_of bytes)
@@ -46,7 +49,7 @@ good_hosts bytes = go (not (length bytes =? record_size)) (kind_in bytes =? 1 &&
         record { least = leb-true 1 (host_in bytes) two.0; most = leb-true (host_in bytes) 4 two.1 }
 
     go : (a b : Bool) → (kind_in bytes =? 1 && good_call bytes) ≡ b → (c d h : Bool)
-        → hosts_of (if a then Entry'.Bad else call_or b (named_in bytes) (host_in bytes) (revision_in bytes) (function_in bytes) (length_in bytes) (if c then Entry'.Tick else if d then Entry'.Power (named_in bytes) else if h then Entry'.Health (named_in bytes) (spare_in bytes) (media_in bytes) (controller_in bytes) else Entry'.Bad))
+        → hosts_of (if a then Entry'.Bad else call_or b (named_in bytes) (host_in bytes) (revision_in bytes) (function_in bytes) (length_in bytes) (if c then Entry'.Tick else if d then Entry'.Power (named_in bytes) else if h then Entry'.Health (named_in bytes) (new_reading (spare_in bytes) (media_in bytes) (controller_in bytes)) else Entry'.Bad))
     go true b e c d h = tt
     go false true e c d h = within e
     go false false e true d h = tt
@@ -56,19 +59,19 @@ good_hosts bytes = go (not (length bytes =? record_size)) (kind_in bytes =? 1 &&
 
 -- a printed status is at most 11
 abbrev small : Verdict → Bool
-small Accepted = true
-small (Refused (R number)) = number ≤? 11
-small (Refused (Status status ext)) = status ≤? 11
+small (Ok tt) = true
+small (Err (R number)) = number ≤? 11
+small (Err (Status status ext)) = status ≤? 11
 
 small_printed : (v : Verdict) → small v ≡ true → printed_status v ≤ 11
-small_printed Accepted e = omega arith
-small_printed (Refused (R number)) e = leb-true number 11 e
-small_printed (Refused (Status status ext)) e = leb-true status 11 e
+small_printed (Ok tt) e = omega arith
+small_printed (Err (R number)) e = leb-true number 11 e
+small_printed (Err (Status status ext)) e = leb-true status 11 e
 
 small_outcome : (v : Verdict) (w : Whole) (named : ℕ) (call : Call) (n : ℕ) (answer : List ℕ) → small v ≡ true → small (outcome v w named call n answer).reply.verdict ≡ true
-small_outcome Accepted w named call n answer e = e
-small_outcome (Refused (R number)) w named call n answer e = e
-small_outcome (Refused (Status status ext)) w named call n answer e = e
+small_outcome (Ok tt) w named call n answer e = e
+small_outcome (Err (R number)) w named call n answer e = e
+small_outcome (Err (Status status ext)) w named call n answer e = e
 
 small_rows : (w : Whole) (named : ℕ) (f : Function) (revision index : ℕ) (request answer : List ℕ)
     → every small (gate_checks w named revision index request answer ++ checks (standing named w) (call_of f revision request)) ≡ true
@@ -144,7 +147,7 @@ unfolding hosts_of
 step r w (Entry'.Call named host revision index size) request s g = counted_call r (index =? 0) named host _ revision index size s g (status_most w named revision index request)
 step r w Entry'.Tick request s g = record { calls = omega arith; ticks = refl; powers = omega arith; readings = omega arith; bads = omega arith; shorts = refl }
 step r w (Entry'.Power named) request s g = record { calls = omega arith; ticks = omega arith; powers = refl; readings = omega arith; bads = omega arith; shorts = refl }
-step r w (Entry'.Health named spare media controller) request s g =
+step r w (Entry'.Health named new) request s g =
     record { calls = omega arith; ticks = omega arith; powers = omega arith; readings = refl; bads = omega arith; shorts = refl }
 step r w Entry'.Bad request s g = record { calls = omega arith; ticks = omega arith; powers = omega arith; readings = omega arith; bads = refl; shorts = refl }
 

@@ -6,23 +6,25 @@ use native.Mathlib.Omega.{arith}
 use lib.ListN.{length}
 use borrow.Author.Tests.{not-true, eqb-true, eqb-false, eq-eqb, ne_eqb, ltb-false}
 use Rattle.std.specs.Prelude.{if◌then◌else◌}
-use Rattle.rules.specs.{Tests.{◌=?◌, ◌<?◌}, Numbers.{area_size, answer_room}, Record.{has_area, possible_cabinet, Whole, whole_of, Module, module_of, standing, in_place}}
-use Rattle.rules.specs.{Refusals.{verdict, tick_checks, event_checks, one_attempt_more, record_left}, Table.row_of, Thresholds.{GetThreshold, SetThreshold}}
+use Rattle.rules.specs.{Tests.{◌=?◌, ◌<?◌}, Numbers.{area_size, answer_room}, Record.{possible_cabinet, Whole, whole_of, Module, module_of, standing}}
+use Rattle.rules.specs.{Refusals.{verdict, tick_checks, event_checks, one_attempt_more}, Table.row_of, Thresholds.{GetThreshold, SetThreshold}}
 use Rattle.rules.specs.Security.{GetSecurityState, SetPassphrase, Disable, Unlock, Freeze}
 use Rattle.rules.specs.Transfer.{TransferCall, GetFwInfo, Start, Send, Finish, Query, transfer_checks}
 use Rattle.rules.specs.Module.{Call, OnMask, OnHealth, OnThresholds, OnTransfer, OnSecurity, OnNothing, call_in, checks, accepted_answer, change, device_powered, device_keeping}
 use Rattle.rules.specs.Cabinet.{Event, call, tick, power, reading, outcome, call_checks, call_result, tick_result, power_result, reading_result, reading_checks, ticked, powered, kept, happened, step}
-use Rattle.rules.specs.{Transfers.{Answer, machine, Exchange, Kind, call_kind, kind_of, event_kind}, Demand3.remains, Demand1.{buffer_too_short, module_over1, spare_over100}, declared.Reading.Reading}
-use Rattle.rules.specs.{declared.Refusal.TheVariants.{R, Status}, declared.Verdict.Verdict, declared.Verdict.TheVariants.{Accepted, Refused}, declared.Device.Device, declared.Cabinet.Cabinet}
+use Rattle.rules.specs.{Transfers.{Answer, machine, Exchange, call_kind, kind_of, event_kind}, Demand3.remains, Demand1.{buffer_too_short, module_over1, spare_over100}, declared.Reading.Reading}
+use Rattle.rules.specs.{declared.Refusal.TheVariants.{R, Status}}
 use Rattle.rules.specs.declared.Transfer.{Transfer}
 use Rattle.rules.proofs.{page.Passed.by_rows, page.Choice.or_false}
-use Rattle.rules.proofs.page.Split.{Seen, seen_from, number, turned, taken, part_of, rest_of, ◌with_its_part◌, ◌with_its_rest◌, RestCall, Masks, Healths, Limits, Locks, Nothing, to_call, Doing, Transfers, Others, Powers, Reads, doing_of, mine?, toward, call_doing, act, unserved?, misfit?, front, answer_by, part_after, rest_after, rest_missed, rest_checks, rest_answer, rest_next, rest_power, read_verdict, rest_read, read_answer, told, does, answers, nexts, inner, doing_kind, act_kind}
+use Rattle.rules.proofs.page.Split.{Seen, seen_from, number, turned, taken, part_of, rest_of, ◌with_its_part◌, ◌with_its_rest◌, RestCall, Masks, Healths, Limits, Locks, Nothing, to_call, Doing, Powers, Reads, doing_of, mine?, toward, call_doing, act, unserved?, misfit?, front, answer_by, part_after, rest_after, rest_missed, rest_checks, rest_answer, rest_next, rest_power, read_verdict, rest_read, read_answer, told, does, answers, nexts, inner, doing_kind, act_kind}
+use Rattle.rules.specs.Refusals.{Verdict}
+use Rattle.std.specs.Prelude.{Ok, Err}
 
 -- no wrong passphrase
 abbrev pub mild : Verdict → Bool
-mild Accepted = true
-mild (Refused (R number)) = true
-mild (Refused (Status status ext)) = not (status =? 11)
+mild (Ok tt) = true
+mild (Err (R number)) = true
+mild (Err (Status status ext)) = not (status =? 11)
 
 -- no transfer call is refused as a wrong passphrase
 pub transfer_mild : (t : Transfer) (given : ℕ) (k a b : Bool) (x : TransferCall) → mild (verdict (front a b ++ transfer_checks t given k x)) ≡ true
@@ -34,9 +36,9 @@ transfer_mild t given k a b (Query context) = by_rows mild (front a b ++ transfe
 
 -- no R number
 abbrev pub no_R : Verdict → Bool
-no_R Accepted = true
-no_R (Refused (R number)) = false
-no_R (Refused (Status status ext)) = true
+no_R (Ok tt) = true
+no_R (Err (R number)) = false
+no_R (Err (Status status ext)) = true
 
 -- past the gate no row of a call gives an R number
 no_R_law : (m : Module) (a b : Bool) (c : Call) → no_R (verdict (front a b ++ checks m c)) ≡ true
@@ -57,10 +59,10 @@ no_R_law m a b (OnSecurity Freeze) = by_rows no_R (front a b ++ checks m (OnSecu
 no_R_law m a b OnNothing = by_rows no_R (front a b) refl
 
 -- a call that remains and gave no wrong passphrase was accepted
-pub accepted_mild : (v : Verdict) → mild v ≡ true → remains v ≡ true → v ≡ Accepted
-accepted_mild Accepted e r = refl
-accepted_mild (Refused (R number)) e r = absurd (false≢true r)
-accepted_mild (Refused (Status status ext)) e r = absurd (false≢true (sym (not-true (status =? 11) e) ∙ r))
+pub accepted_mild : (v : Verdict) → mild v ≡ true → remains v ≡ true → v ≡ Ok tt
+accepted_mild (Ok tt) e r = refl
+accepted_mild (Err (R number)) e r = absurd (false≢true r)
+accepted_mild (Err (Status status ext)) e r = absurd (false≢true (sym (not-true (status =? 11) e) ∙ r))
 
 -- a module of the cabinet, as its calls find it
 abbrev pub view_of : Seen → Module
@@ -75,9 +77,9 @@ missed_once s = record { own = one_attempt_more s.own; other = s.other; given = 
 
 -- what a verdict on a call leaves, seen from its module
 abbrev own_after : Verdict → Seen → Call → Seen
-own_after Accepted s c = back_to s (change (view_of s) c)
-own_after (Refused (R number)) s c = s
-own_after (Refused (Status status ext)) s c = if status =? 11 then missed_once s else s
+own_after (Ok tt) s c = back_to s (change (view_of s) c)
+own_after (Err (R number)) s c = s
+own_after (Err (Status status ext)) s c = if status =? 11 then missed_once s else s
 
 -- a record in its place: the module's own, where the test says that it is module 0
 placed : (z : Bool) (w : Whole) (m : Module)
@@ -103,28 +105,28 @@ left false false w = refl
 
 seen_after : (v : Verdict) (w : Whole) (named : ℕ) (c : Call) (n : ℕ) (answer : List ℕ)
     → seen_from (named =? 0) (outcome v w named c n answer).after ≡ own_after v (seen_from (named =? 0) w) c
-seen_after Accepted w named c n answer = placed (named =? 0) w (change (view_of (seen_from (named =? 0) w)) c)
-seen_after (Refused (R number)) w named c n answer = refl
-seen_after (Refused (Status status ext)) w named c n answer = left (named =? 0) (status =? 11) w
+seen_after (Ok tt) w named c n answer = placed (named =? 0) w (change (view_of (seen_from (named =? 0) w)) c)
+seen_after (Err (R number)) w named c n answer = refl
+seen_after (Err (Status status ext)) w named c n answer = left (named =? 0) (status =? 11) w
 
 -- what a call does to its module's two parts
 after_part_law : (v : Verdict) (s : Seen) (x : TransferCall) → mild v ≡ true → own_after v s (OnTransfer x) ≡ s with_its_part part_after v (part_of s) x
-after_part_law Accepted s x e = refl
-after_part_law (Refused (R number)) s x e = refl
-after_part_law (Refused (Status status ext)) s x e = rw (not-true (status =? 11) e)
+after_part_law (Ok tt) s x e = refl
+after_part_law (Err (R number)) s x e = refl
+after_part_law (Err (Status status ext)) s x e = rw (not-true (status =? 11) e)
 
 missed : (b : Bool) (s : Seen) → (if b then missed_once s else s) ≡ s with_its_rest (if b then rest_missed (rest_of s) else rest_of s)
 missed true s = refl
 missed false s = refl
 
 after_rest : (v : Verdict) (s : Seen) (x : RestCall) → own_after v s (to_call x) ≡ s with_its_rest rest_after v (rest_of s) x
-after_rest Accepted s (Masks revision) = refl
-after_rest Accepted s Healths = refl
-after_rest Accepted s (Limits x) = refl
-after_rest Accepted s (Locks x) = refl
-after_rest Accepted s Nothing = refl
-after_rest (Refused (R number)) s x = refl
-after_rest (Refused (Status status ext)) s x = missed (status =? 11) s
+after_rest (Ok tt) s (Masks revision) = refl
+after_rest (Ok tt) s Healths = refl
+after_rest (Ok tt) s (Limits x) = refl
+after_rest (Ok tt) s (Locks x) = refl
+after_rest (Ok tt) s Nothing = refl
+after_rest (Err (R number)) s x = refl
+after_rest (Err (Status status ext)) s x = missed (status =? 11) s
 
 call_told : (s : Seen) (host : ℕ) (a b : Bool) (c : Call) (n : ℕ) (answer : List ℕ)
     → answer_by (verdict (front a b ++ checks (view_of s) c)) n (accepted_answer (view_of s) c) answer ≡ told s (doing_of host a b c n answer)
@@ -182,12 +184,12 @@ gate_call : (w : Whole) (named revision index : ℕ) (request answer : List ℕ)
 unfolding verdict
 gate_call w named revision index request answer room there size poss = rw (room, there, size, poss)
 
-gate_tick : (w : Whole) → (length w.area =? area_size) ≡ true → possible_cabinet w.cabinet ≡ true → verdict (tick_checks w) ≡ Accepted
+gate_tick : (w : Whole) → (length w.area =? area_size) ≡ true → possible_cabinet w.cabinet ≡ true → verdict (tick_checks w) ≡ Ok tt
 unfolding verdict
 gate_tick w size poss = rw (size, poss)
 
 gate_event : (w : Whole) (named : ℕ) → (1 <? named) ≡ false → (length w.area =? area_size) ≡ true → possible_cabinet w.cabinet ≡ true
-    → verdict (event_checks w named) ≡ Accepted
+    → verdict (event_checks w named) ≡ Ok tt
 unfolding verdict
 gate_event w named there size poss = rw (there, size, poss)
 
@@ -198,14 +200,14 @@ gate_reading w named new there size poss = rw (there, size, poss)
 
 outcome_answer : (v : Verdict) (w : Whole) (named : ℕ) (c : Call) (n : ℕ) (answer : List ℕ)
     → ◌≡◌ {A = Answer} (record { reply = (outcome v w named c n answer).reply; buffer = (outcome v w named c n answer).answer }) (answer_by v n (accepted_answer (standing named w) c) answer)
-outcome_answer Accepted w named c n answer = refl
-outcome_answer (Refused (R number)) w named c n answer = refl
-outcome_answer (Refused (Status status ext)) w named c n answer = refl
+outcome_answer (Ok tt) w named c n answer = refl
+outcome_answer (Err (R number)) w named c n answer = refl
+outcome_answer (Err (Status status ext)) w named c n answer = refl
 
 happened_answer : (v : Verdict) (changed was : Whole)
     → ◌≡◌ {A = Answer} (record { reply = (happened v changed was).reply; buffer = (happened v changed was).answer }) (read_answer v)
-happened_answer Accepted changed was = refl
-happened_answer (Refused refusal) changed was = refl
+happened_answer (Ok tt) changed was = refl
+happened_answer (Err refusal) changed was = refl
 
 powered_place : (z : Bool) (w : Whole)
     → seen_from z (whole_of (record {
@@ -225,10 +227,10 @@ kept_place : (z : Bool) (v : Verdict) (w : Whole) (new : Reading)
       second = if z then w.cabinet.second else device_keeping new (if z then w.cabinet.first else w.cabinet.second);
     }) w.area) w).after
     ≡ seen_from z w with_its_rest rest_read v (rest_of (seen_from z w)) new
-kept_place true Accepted w new = refl
-kept_place true (Refused refusal) w new = refl
-kept_place false Accepted w new = refl
-kept_place false (Refused refusal) w new = refl
+kept_place true (Ok tt) w new = refl
+kept_place true (Err refusal) w new = refl
+kept_place false (Ok tt) w new = refl
+kept_place false (Err refusal) w new = refl
 
 ticked_place : (first : Bool) (w : Whole) → seen_from first (ticked w) ≡ (inner first).next (seen_from first w) tick
 ticked_place true w = refl
@@ -275,10 +277,10 @@ through first w (call host named revision index request answer) unstopped size p
     gate : verdict (call_checks w named revision index request answer) ≡ u
     gate = let q = or_false (length answer <? answer_room) (1 <? named) unstopped in gate_call w named revision index request answer q.0 q.1 size poss
 through first w tick unstopped size poss =
-    let gate : verdict (tick_checks w) ≡ Accepted = gate_tick w size poss in
+    let gate : verdict (tick_checks w) ≡ (Ok tt) = gate_tick w size poss in
     record { answers_as = rw gate; nexts_as = ap (λ (v : Verdict). seen_from first (happened v (ticked w) w).after) gate ∙ ticked_place first w }
 through first w (power named) unstopped size poss =
-    let gate : verdict (event_checks w named) ≡ Accepted = gate_event w named unstopped size poss in
+    let gate : verdict (event_checks w named) ≡ (Ok tt) = gate_event w named unstopped size poss in
     record {
       answers_as = rw gate (sym (answers_place first (named =? 0) w Powers));
       nexts_as =
@@ -297,13 +299,13 @@ through first w (reading named new) unstopped size poss =
     }
 
 outcome_no_R : (v : Verdict) (w : Whole) (named : ℕ) (c : Call) (n : ℕ) (answer : List ℕ) → no_R v ≡ true → no_R (outcome v w named c n answer).reply.verdict ≡ true
-outcome_no_R Accepted w named c n answer e = refl
-outcome_no_R (Refused (R number)) w named c n answer e = e
-outcome_no_R (Refused (Status status ext)) w named c n answer e = refl
+outcome_no_R (Ok tt) w named c n answer e = refl
+outcome_no_R (Err (R number)) w named c n answer e = e
+outcome_no_R (Err (Status status ext)) w named c n answer e = refl
 
 -- what a reading is answered, by its spare
 pub reading_verdict : (w : Whole) (named : ℕ) (new : Reading) (over : Bool) → (100 <? new.spare) ≡ over → (1 <? named) ≡ false → (length w.area =? area_size) ≡ true
-    → possible_cabinet w.cabinet ≡ true → (step w (reading named new)).reply.verdict ≡ (if over then Refused (R 4) else Accepted)
+    → possible_cabinet w.cabinet ≡ true → (step w (reading named new)).reply.verdict ≡ (if over then Err (R 4) else (Ok tt))
 unfolding reading_result verdict
 reading_verdict w named new true e there size poss = rw (there, size, poss, e)
 reading_verdict w named new false e there size poss = rw (there, size, poss, e)
@@ -323,28 +325,28 @@ gate_no_R w (reading named new) unstopped low size poss = ap no_R (reading_verdi
 
 -- a short answer buffer gives R1, and then a module over 1 gives R5, from an area of the right size; each leaves all
 pub record Shut (w : Whole) (event : Event) (number : ℕ) : Type 0 where
-  pub is_R : (step w event).reply.verdict ≡ Refused (R number)
+  pub is_R : (step w event).reply.verdict ≡ Err (R number)
   pub same : machine.next w event ≡ w
 
 shut_call : (w : Whole) (named revision index : ℕ) (request answer : List ℕ) → (length answer <? answer_room) ≡ true
-    → verdict (call_checks w named revision index request answer) ≡ Refused (R 1)
+    → verdict (call_checks w named revision index request answer) ≡ Err (R 1)
 unfolding verdict
 shut_call w named revision index request answer e = rw e
 
 over_call : (w : Whole) (named revision index : ℕ) (request answer : List ℕ) → (length answer <? answer_room) ≡ false → (1 <? named) ≡ true → (length w.area =? area_size) ≡ true
-    → verdict (call_checks w named revision index request answer) ≡ Refused (R 5)
+    → verdict (call_checks w named revision index request answer) ≡ Err (R 5)
 unfolding verdict
 over_call w named revision index request answer room e size = rw (room, size, e)
 
-over_event : (w : Whole) (named : ℕ) → (1 <? named) ≡ true → (length w.area =? area_size) ≡ true → verdict (event_checks w named) ≡ Refused (R 5)
+over_event : (w : Whole) (named : ℕ) → (1 <? named) ≡ true → (length w.area =? area_size) ≡ true → verdict (event_checks w named) ≡ Err (R 5)
 unfolding verdict
 over_event w named e size = rw (size, e)
 
-over_reading : (w : Whole) (named : ℕ) (new : Reading) → (1 <? named) ≡ true → (length w.area =? area_size) ≡ true → verdict (reading_checks w named new) ≡ Refused (R 5)
+over_reading : (w : Whole) (named : ℕ) (new : Reading) → (1 <? named) ≡ true → (length w.area =? area_size) ≡ true → verdict (reading_checks w named new) ≡ Err (R 5)
 unfolding verdict
 over_reading w named new e size = rw (size, e)
 
-by_verdict : (w : Whole) (named revision index : ℕ) (request answer : List ℕ) (number : ℕ) → verdict (call_checks w named revision index request answer) ≡ Refused (R number)
+by_verdict : (w : Whole) (named revision index : ℕ) (request answer : List ℕ) (number : ℕ) → verdict (call_checks w named revision index request answer) ≡ Err (R number)
     → (host : ℕ) → Shut w (call host named revision index request answer) number
 unfolding call_result
 by_verdict w named revision index request answer number gate host =
