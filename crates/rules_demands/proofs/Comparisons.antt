@@ -7,9 +7,9 @@ use borrow.Author.Tests.{not-false}
 use lib.{ListN.{length, take, drop, get_or, length-take, length-drop}, Seq.{get_or-take, get_or-drop, ext_get_or, take_all, take-length}}
 use Rattle.rules.specs.{Tests.◌=?◌, Bytes.same?, Text.decimal, Log.record_at}
 use Rattle.rules.specs.Compare.{compared, Difference, differences, place_equal, place_fields, rest_after, differences_to, leading_to, compare_text, listed?, any?, Rising, FieldsTold}
-use Rattle.rules.specs.Compare.{Comparison, report}
+use Rattle.rules.specs.Compare.{Comparison}
 use Rattle.rules.proofs.page.{Places.{same_refl, same_true}, Compared.{request_T06}}
-use Rattle.rules_demands.specs.Comparisons.{numbers, among, SameBytes, ComparisonsWrittenOut, ComparisonsHeld}
+use Rattle.rules_demands.specs.Comparisons.{numbers, among, SameBytes, reported, ComparisonsWrittenOut, ComparisonsHeld}
 
 among_listed : (j : ℕ) (ds : List Difference) → among j (numbers ds) ≡ listed? j ds
 among_listed j [] = refl
@@ -160,7 +160,7 @@ written_out =
       report_means_equal = λ first second. (request_T06 first second).report_means_equal;
       report_of_equal = λ log room.
           (request_T06 log log).report_of_equal room refl
-          ∙ ap (λ (bytes : List ℕ). report ((length bytes + 543) / 544) 0 0) (take-length log);
+          ∙ ap (λ (bytes : List ℕ). reported ((length bytes + 543) / 544) 0 0) (take-length log);
       bytes_equal = by_bytes;
       equal_by_bytes = from_bytes;
       no_field = λ first second j e. any_none (place_fields first second j) ((request_T06 first second).six_fields j ∙ ap not e);

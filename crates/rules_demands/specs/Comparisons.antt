@@ -7,7 +7,8 @@ use mathlib.Core.{Path.◌≡◌, Logic.◌↔◌, Bool.{Bool, true, false, not,
 use Rattle.std.specs.Prelude.{length, take, drop, get_or}
 use Rattle.rules.specs.{Tests.{◌<?◌, ◌=?◌}, Bytes.{le, zeros}, Text.ascii}
 use Rattle.rules.specs.Compare.{fields_differing, Difference, places, leading, differences, place_equal, place_fields, rest, left, comparison, list_after, rest_after, entries, list_room, comparison_text, compare_text}
-use Rattle.rules.specs.Compare.{report, list_full}
+use Rattle.rules.specs.declared.{Compared.Compared, ListFull.ListFull}
+use Rattle.std.specs.Prelude.{Result, Ok, Err}
 
 -- the numbers of differing places
 abbrev pub numbers : List Difference → List ℕ
@@ -26,13 +27,20 @@ SameBytes first second j from to =
 abbrev pub differs : (first second : List ℕ) (j i : ℕ) → Bool
 differs first second j i = get_or (place_fields first second j) i true
 
+-- what a comparison comes to, each number in its field: a report, or a list that is full
+abbrev pub reported : (leading differing left : ℕ) → Result Compared ListFull
+reported leading differing left = Ok (record { leading = leading; differing = differing; left = left })
+
+abbrev pub full_list : (differing : ℕ) → Result Compared ListFull
+full_list differing = Err (record { differing = differing })
+
 -- of any two logs
 pub record ComparisonsWrittenOut : Type 0 where
   pub means_equal : (first second : List ℕ) → differences first second ≡ [] → left first second ≡ 0 → first ≡ second
   pub none_in_equal : (log : List ℕ) → differences log log ≡ []
   pub none_left_in_equal : (log : List ℕ) → left log log ≡ 0
-  pub report_means_equal : (first second : List ℕ) (room lead : ℕ) → comparison first second room ≡ report lead 0 0 → first ≡ second
-  pub report_of_equal : (log : List ℕ) (room : ℕ) → comparison log log room ≡ report ((length log + 543) / 544) 0 0
+  pub report_means_equal : (first second : List ℕ) (room lead : ℕ) → comparison first second room ≡ reported lead 0 0 → first ≡ second
+  pub report_of_equal : (log : List ℕ) (room : ℕ) → comparison log log room ≡ reported ((length log + 543) / 544) 0 0
   -- a place is equal exactly if all bytes compared there are: those of its 544 that both logs have
   pub bytes_equal : (first second : List ℕ) (j k : ℕ) → place_equal first second j ≡ true → j * 544 ≤ k → k < j * 544 + 544 → k < length first → k < length second
       → get_or first k 0 ≡ get_or second k 0
@@ -64,8 +72,8 @@ pub record ComparisonsWrittenOut : Type 0 where
   pub makes_second : (first second : List ℕ) → length first < length second → differences first second ≡ [] → first ++ rest first second ≡ second
   pub left_over : (first second : List ℕ) → left first second ≡ length (rest first second)
   pub holds : (first second : List ℕ) (room : ℕ) → length (differences first second) ≤ room
-      → comparison first second room ≡ report (leading first second) (length (differences first second)) (left first second)
-  pub full : (first second : List ℕ) (room : ℕ) → room < length (differences first second) → comparison first second room ≡ list_full (length (differences first second))
+      → comparison first second room ≡ reported (leading first second) (length (differences first second)) (left first second)
+  pub full : (first second : List ℕ) (room : ℕ) → room < length (differences first second) → comparison first second room ≡ full_list (length (differences first second))
   pub list_written : (first second list : List ℕ) → length (differences first second) ≤ length list
       → list_after first second list ≡ entries (differences first second) ++ drop (length (differences first second)) list
   pub list_stays : (first second list : List ℕ) → length list < length (differences first second) → list_after first second list ≡ list
@@ -149,13 +157,13 @@ pub record ComparisonsHeld : Type 0 where
   pub both_empty : compare_text [] [] ≡ ascii "leading 0\nleft 0\n"
   pub room_is : list_room ≡ 1000
   pub equal_printed : compare_text here here ≡ ascii "leading 2\nleft 0\n"
-  pub all_fields_printed : comparison_text (report 0 1 7) (record { place = 1001; fields = true ∷ true ∷ true ∷ true ∷ true ∷ true ∷ [] } ∷ [])
+  pub all_fields_printed : comparison_text (reported 0 1 7) (record { place = 1001; fields = true ∷ true ∷ true ∷ true ∷ true ∷ true ∷ [] } ∷ [])
       ≡ ascii "leading 0\n1001 kind host revision function length request\nleft 7\n"
-  pub full_printed : comparison_text (list_full 1001) [] ≡ ascii "full 1001\n"
+  pub full_printed : comparison_text (full_list 1001) [] ≡ ascii "full 1001\n"
   -- a cut place leads where its bytes are equal, and has at least one byte
   pub cut_leads : map (λ size. comparison (take size here) here 0) (0 ∷ 1 ∷ 543 ∷ 544 ∷ 545 ∷ [])
-      ≡ report 0 0 545 ∷ report 1 0 544 ∷ report 1 0 2 ∷ report 1 0 1 ∷ report 2 0 0 ∷ []
-  pub just_full : map (comparison here there) (0 ∷ 1 ∷ 2 ∷ 3 ∷ []) ≡ list_full 2 ∷ list_full 2 ∷ report 0 2 2 ∷ report 0 2 2 ∷ []
+      ≡ reported 0 0 545 ∷ reported 1 0 544 ∷ reported 1 0 2 ∷ reported 1 0 1 ∷ reported 2 0 0 ∷ []
+  pub just_full : map (comparison here there) (0 ∷ 1 ∷ 2 ∷ 3 ∷ []) ≡ full_list 2 ∷ full_list 2 ∷ reported 0 2 2 ∷ reported 0 2 2 ∷ []
   pub not_touched : list_after here there (7 ∷ []) ≡ 7 ∷ []
   pub written : list_after here there (7 ∷ 7 ∷ 7 ∷ []) ≡ 2 ∷ 65 ∷ 7 ∷ []
   pub from_first : rest_after (comparison there here 2) there here ≡ 4 ∷ 6 ∷ []

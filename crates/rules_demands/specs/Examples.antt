@@ -7,13 +7,13 @@ use Rattle.std.specs.Prelude.{if◌then◌else◌}
 use Rattle.rules.specs.With.{◌with_transfer◌, ◌with_phase◌, ◌with_received◌, ◌with_staged◌}
 use Rattle.rules.specs.Record.{◌is◌, fresh, Whole, whole_of}
 use Rattle.rules.specs.Cabinet.{Event, call, power, reading}
-use Rattle.rules.specs.Health.{new_reading}
 use Rattle.rules.specs.Text.{ascii}
 use Rattle.rules.specs.Log.{entry_of}
 use Rattle.rules.specs.Replay.{replay_start, whole_after, replay_text}
 use Rattle.rules.specs.Cases.{Deed, ◌gets◌, passing, powering, taken, gives_R, Case, cases, failing}
 use Rattle.rules.specs.Texts.{texts, log_of, text_of}
 use Rattle.rules.specs.declared.{Entry.TheVariants.{Health, Bad}, Phase.Phase, Phase.TheVariants.{Idle, Receiving, Verifying, Staged, Failed}}
+use Rattle.rules_demands.specs.Health.{measured}
 
 -- a call to module 0 at revision 2, lent 132 bytes of this number
 abbrev asks : (index : ℕ) (request : List ℕ) (lent : ℕ) → Event
@@ -52,20 +52,20 @@ wrong_cases =
     (phase_is Failed)
     -- a reading: nothing is enabled, and so nothing has tripped
     ∷ row
-    (taken 0 (new_reading 1 2 3)
+    (taken 0 (measured 1 2 3)
     ∷ asks 1 [] 255 gets ((0 ∷ 0 ∷ 0 ∷ 0 ∷ 0x1A ∷ 0x02 ∷ 0 ∷ 0 ∷ 0 ∷ 0 ∷ 0 ∷ 0 ∷ 0 ∷ 1 ∷ 0 ∷ 1 ∷ 2 ∷ 0 ∷ 3 ∷ 0 ∷ []) ++ replicate 112 0)
     ∷ [])
     (λ w. true)
     -- a reading that is refused; one that is taken; another number
-    ∷ row (taken 0 (new_reading 101 0 0) ∷ []) (λ w. true)
-    ∷ row (gives_R 4 (reading 0 (new_reading 100 0 0)) ∷ []) (λ w. true)
-    ∷ row (gives_R 3 (reading 0 (new_reading 101 0 0)) ∷ []) (λ w. true)
+    ∷ row (taken 0 (measured 101 0 0) ∷ []) (λ w. true)
+    ∷ row (gives_R 4 (reading 0 (measured 100 0 0)) ∷ []) (λ w. true)
+    ∷ row (gives_R 3 (reading 0 (measured 101 0 0)) ∷ []) (λ w. true)
     -- a power cycle, after which no transfer goes on
     ∷ row (asks 13 [] 255 gets (0 ∷ 0 ∷ 0 ∷ 0 ∷ 1 ∷ 0 ∷ 0 ∷ 0 ∷ []) ∷ powering 0 ∷ []) (phase_is Receiving)
     -- the other module's power cycle, over which it does; and the other module's reading, which is not this one's
     ∷ row (asks 13 [] 255 gets (0 ∷ 0 ∷ 0 ∷ 0 ∷ 1 ∷ 0 ∷ 0 ∷ 0 ∷ []) ∷ powering 1 ∷ []) (phase_is Idle)
     ∷ row
-    (taken 1 (new_reading 1 2 3)
+    (taken 1 (measured 1 2 3)
     ∷ asks 1 [] 255 gets ((0 ∷ 0 ∷ 0 ∷ 0 ∷ 0x1A ∷ 0x02 ∷ 0 ∷ 0 ∷ 0 ∷ 0 ∷ 0 ∷ 0 ∷ 0 ∷ 1 ∷ 0 ∷ 0 ∷ 2 ∷ 0 ∷ 3 ∷ 0 ∷ []) ++ replicate 112 0)
     ∷ [])
     (λ w. true)
@@ -136,8 +136,8 @@ pub record TextsHeld : Type 0 where
       ∷ ascii "record kind status ext length\n0 call 0 0 8\n1 call 8 0 8\n2 power\n3 health\n4 power\n5 call 0 0 8\n6 bad\n7 bad\n8 bad\n9 bad\nend idle 2\nend receiving 2\n"
       ∷ []
   -- a reading's five bytes, each in its place; a byte beside them, before or behind; and what the replay's module 0 keeps
-  pub five_bytes : entry_of (reading_record 0 0 0 0 0) ≡ Health 0 (new_reading 100 0x0501 0x8000)
+  pub five_bytes : entry_of (reading_record 0 0 0 0 0) ≡ Health 0 (measured 100 0x0501 0x8000)
   pub other_bytes : map entry_of (reading_record 1 0 0 0 0 ∷ reading_record 0 1 0 0 0 ∷ reading_record 0 0 1 0 0 ∷ reading_record 0 0 0 1 0 ∷ reading_record 0 0 0 0 1 ∷ [])
       ≡ replicate 5 Bad
-  pub kept : (whole_after replay_start (reading_record 0 0 0 0 0) 1).cabinet.first.reading ≡ new_reading 100 0x0501 0x8000
+  pub kept : (whole_after replay_start (reading_record 0 0 0 0 0) 1).cabinet.first.reading ≡ measured 100 0x0501 0x8000
   pub begins : replay_start ≡ record { cabinet = record { contexts = 0; first = fresh; second = fresh }; area = replicate 16384 0 }

@@ -6,13 +6,13 @@ use mathlib.Core.{Path.◌≡◌, Logic.{◌↔◌, ◌⊎◌}, Bool.{Bool, true
 use Rattle.std.specs.Prelude.{length, take, drop}
 use Rattle.std.specs.Prelude.{if◌then◌else◌}
 use Rattle.rules.specs.Tests.{◌≤?◌, ◌=?◌}
-use Rattle.rules.specs.{Bytes.{number_at}, Image.{sum_of_words, good_record, good_image}, Record.{possible, possible_parts, possible_cabinet, fresh}, Health.{new_reading, trips}, Adopt.{possible_before, adoptable, adopted, adopted_cabinet}}
+use Rattle.rules.specs.{Bytes.{number_at}, Image.{sum_of_words, good_record, good_image}, Record.{possible, possible_parts, possible_cabinet, fresh}, Health.{trips}, Adopt.{possible_before, adoptable, adopted, adopted_cabinet}}
 use Rattle.rules.specs.With.{◌with_transfer◌, ◌with_thresholds◌, ◌with_reading◌, ◌with_trips◌, ◌with_phase◌, ◌with_current◌, ◌with_received◌, ◌with_reason◌}
 use Rattle.rules.specs.Fault.{reason_number, none, ◌of_record◌, first_fault, image_of}
 use Rattle.rules.specs.declared.{Reason.Reason, Reason.TheVariants.{Size, Number, Count, Version, Sum}}
 use Rattle.rules.specs.declared.{Phase.Phase, Phase.TheVariants.{Idle, Failed}, Device.Device}
-use Rattle.rules.specs.Fault.{bad_image}
-use Rattle.std.specs.Prelude.{Ok}
+use Rattle.rules_demands.specs.Health.{measured}
+use Rattle.std.specs.Prelude.{Ok, Err}
 
 -- the tests, by the bytes: the size; then of record i its number, its count, its version and its sum
 abbrev pub sized : List ℕ → Bool
@@ -52,7 +52,7 @@ pub record FaultsWrittenOut : Type 0 where
   pub good_before : (bytes : List ℕ) (reason : Reason) (i j : ℕ) → first_fault bytes ≡ (reason of_record i) → j < i
       → good_record j (length bytes / 128) (number_at 8 4 bytes) (bytes_of j bytes) ≡ true
   pub told_good : (bytes : List ℕ) (version : ℕ) → (image_of bytes ≡ Ok version) ↔ ((good_image bytes ≡ true) × (version ≡ number_at 8 4 bytes))
-  pub told_bad : (bytes : List ℕ) (reason : Reason) (i : ℕ) → (image_of bytes ≡ bad_image reason i) ↔ (first_fault bytes ≡ (reason of_record i))
+  pub told_bad : (bytes : List ℕ) (reason : Reason) (i : ℕ) → (image_of bytes ≡ Err (record { reason = reason; number = i })) ↔ (first_fault bytes ≡ (reason of_record i))
 
 -- Idle with received 0, with the trips byte that thresholds and reading give, and nothing else changes
 pub record IdleWithAllElse (d taken : Device) : Type 0 where
@@ -97,7 +97,7 @@ pub record FaultsHeld : Type 0 where
   pub adopted_ones : map adopted (kept Failed 7 128 0 ∷ kept Failed 7 128 5 ∷ kept Idle 7 0 0 ∷ []) ≡ kept Idle 7 0 0 ∷ kept Failed 7 128 5 ∷ kept Idle 7 0 0 ∷ []
   pub no_others : map adoptable (kept Failed 0 128 0 ∷ kept Failed 7 128 6 ∷ kept Idle 7 0 1 ∷ kept Idle 7 1 0 ∷ []) ≡ false ∷ false ∷ false ∷ false ∷ []
   -- nor one in Failed without a reason that has a reading, which no library before kept
-  pub none_with_reading : map (λ new. adoptable (kept Failed 7 128 0 with_reading new)) (new_reading 1 0 0 ∷ new_reading 0 1 0 ∷ new_reading 0 0 1 ∷ []) ≡ false ∷ false ∷ false ∷ []
+  pub none_with_reading : map (λ new. adoptable (kept Failed 7 128 0 with_reading new)) (measured 1 0 0 ∷ measured 0 1 0 ∷ measured 0 0 1 ∷ []) ≡ false ∷ false ∷ false ∷ []
   -- one with an alarm that its reading trips, from before the byte was kept; with any other byte it is none of those
   pub adopted_bytes : map (λ byte. adoptable (tripping byte)) (0 ∷ 1 ∷ 2 ∷ 3 ∷ []) ≡ true ∷ true ∷ false ∷ false ∷ []
   pub byte_given : adopted (tripping 0) ≡ tripping 1

@@ -7,7 +7,7 @@ use lib.{ListN.replicate, IntN.{pos, neg_ℤ}, Signed.◌<ℤ◌}
 use Rattle.std.specs.Prelude.{if◌then◌else◌}
 use Rattle.rules.specs.Tests.{◌<?◌}
 use Rattle.rules.specs.Bytes.{on}
-use Rattle.rules.specs.Health.{new_reading, sixteenths, above, trips, health_answer}
+use Rattle.rules.specs.Health.{sixteenths, above, trips, health_answer}
 use Rattle.rules.specs.declared.{Thresholds.Thresholds, Reading.Reading}
 
 -- how high a word stands over FFFFh, the lowest
@@ -28,12 +28,16 @@ pub record HealthWrittenOut : Type 0 where
   pub bit_2_where : (h : Thresholds) (r : Reading) → on 2 h.enable ≡ true → sixteenths h.controller <ℤ sixteenths r.controller → on 2 (trips h r) ≡ true
   pub three_bits : (h : Thresholds) (r : Reading) → trips h r < 8
 
+-- a reading, each of its three words in its field
+abbrev pub measured : (spare media controller : ℕ) → Reading
+measured spare media controller = record { spare = spare; media = media; controller = controller }
+
 -- these alarms enabled; spare 20, media 0500h and controller 8001h are the thresholds
 abbrev pub enabled : ℕ → Thresholds
 enabled bits = record { enable = bits; spare = 20; media = 0x0500; controller = 0x8001 }
 
 abbrev pub tripped_by : (spare media controller : ℕ) (bits : ℕ) → ℕ
-tripped_by spare media controller bits = trips (enabled bits) (new_reading spare media controller)
+tripped_by spare media controller bits = trips (enabled bits) (measured spare media controller)
 
 pub record HealthHeld : Type 0 where
   -- what words measure
@@ -47,5 +51,5 @@ pub record HealthHeld : Type 0 where
   pub at_threshold : map (tripped_by 20 0x0500 0x8001) (0 ∷ 1 ∷ 2 ∷ 4 ∷ 7 ∷ []) ≡ 0 ∷ 0 ∷ 0 ∷ 0 ∷ 0 ∷ []
   -- one value past its threshold trips its own alarm alone; on the other side of it none does
   pub alone : tripped_by 19 0x0500 0x8001 7 ∷ tripped_by 20 0x0501 0x8001 7 ∷ tripped_by 20 0x0500 0x8000 7 ∷ tripped_by 21 0x04FF 0x8002 7 ∷ [] ≡ 1 ∷ 2 ∷ 4 ∷ 0 ∷ []
-  pub bytes : health_answer (enabled 7) (new_reading 19 0x0501 0x8000)
+  pub bytes : health_answer (enabled 7) (measured 19 0x0501 0x8000)
       ≡ (0x1A ∷ 0x02 ∷ 0x00 ∷ 0x00 ∷ 0 ∷ 0 ∷ 0 ∷ 0 ∷ 0 ∷ 19 ∷ 0 ∷ 7 ∷ 0x01 ∷ 0x05 ∷ 0x00 ∷ 0x80 ∷ []) ++ replicate 112 0

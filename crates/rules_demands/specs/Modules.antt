@@ -11,13 +11,13 @@ use Rattle.rules.specs.Bytes.{le, number_at}
 use Rattle.rules.specs.With.{◌with_transfer◌, ◌with_phase◌, ◌with_current◌, ◌with_ticks◌, ◌with_reason◌}
 use Rattle.rules.specs.Record.{fresh, possible_cabinet, Whole, whole_of}
 use Rattle.rules.specs.Refusals.{verdict}
-use Rattle.rules.specs.Health.{new_reading}
 use Rattle.rules.specs.Transfer.{Start, transfer_checks}
 use Rattle.rules.specs.Cabinet.{Event, call, tick, power, reading, step}
 use Rattle.rules.specs.Log.{entry_of}
 use Rattle.rules.specs.declared.{Refusal.Refusal, Refusal.TheVariants.{R, Status}, Reply.Reply, Reading.Reading, Device.Device}
 use Rattle.rules.specs.declared.{Phase.Phase, Phase.TheVariants.{Idle, Receiving, Verifying, Staged, Failed}, Entry.TheVariants.{Call, Tick, Power, Health, Bad}}
 use Rattle.rules.specs.Refusals.{Verdict}
+use Rattle.rules_demands.specs.Health.{measured}
 use Rattle.std.specs.Prelude.{Ok, Err}
 
 -- an event that names one module, or none that there is, leaves the record of the other, from any record and any area
@@ -151,7 +151,7 @@ short_of w = whole_of w.cabinet (replicate 16383 0)
 
 -- the events of a module: a call, a power cycle, and a reading over 100
 abbrev pub each_of : (named : ℕ) → List Event
-each_of named = asks named 12 [] ∷ power named ∷ reading named (new_reading 101 0 0) ∷ []
+each_of named = asks named 12 [] ∷ power named ∷ reading named (measured 101 0 0) ∷ []
 
 abbrev pub answered : Whole → Event → Verdict
 answered w event = (step w event).reply.verdict
@@ -188,4 +188,4 @@ pub record ModulesHeld : Type 0 where
   pub calls_bad : map (λ byte. entry_of (call_by byte)) (0x00 ∷ 0x05 ∷ 0x10 ∷ 0x15 ∷ 0x21 ∷ 0xF1 ∷ []) ≡ replicate 6 Bad
   pub ticks_name : map (λ byte. entry_of (record_by 2 byte)) (0x00 ∷ 0x01 ∷ 0x10 ∷ []) ≡ Tick ∷ Bad ∷ Bad ∷ []
   pub powers_name : map (λ byte. entry_of (record_by 3 byte)) (0x00 ∷ 0x10 ∷ 0x01 ∷ 0x11 ∷ 0x20 ∷ []) ≡ Power 0 ∷ Power 1 ∷ Bad ∷ Bad ∷ Bad ∷ []
-  pub readings_name : map (λ byte. entry_of (record_by 4 byte)) (0x00 ∷ 0x10 ∷ 0x01 ∷ 0x11 ∷ 0x20 ∷ []) ≡ Health 0 (new_reading 0 0 0) ∷ Health 1 (new_reading 0 0 0) ∷ Bad ∷ Bad ∷ Bad ∷ []
+  pub readings_name : map (λ byte. entry_of (record_by 4 byte)) (0x00 ∷ 0x10 ∷ 0x01 ∷ 0x11 ∷ 0x20 ∷ []) ≡ Health 0 (measured 0 0 0) ∷ Health 1 (measured 0 0 0) ∷ Bad ∷ Bad ∷ Bad ∷ []

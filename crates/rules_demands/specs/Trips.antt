@@ -5,9 +5,10 @@ use Rattle.std.specs.Prelude.{ℕ, ◌≤◌}
 use mathlib.Core.{Path.◌≡◌, Bool.true, List.{List, [], ◌∷◌, ◌++◌, map}}
 use Rattle.std.specs.Prelude.{length, drop, replicate}
 use Rattle.rules.specs.Record.{fresh, possible, possible_parts, possible_cabinet, Whole, whole_of, device_of}
-use Rattle.rules.specs.Health.{new_reading, trips, health_answer}
+use Rattle.rules.specs.Health.{trips, health_answer}
 use Rattle.rules.specs.Cabinet.{Event, call, tick, power, reading, step}
 use Rattle.rules.specs.declared.{Refusal.TheVariants.R, Reading.Reading, Device.Device}
+use Rattle.rules_demands.specs.Health.{measured}
 use Rattle.std.specs.Prelude.{Ok, Err}
 
 -- two fresh modules, with this area
@@ -59,12 +60,12 @@ byte_after events = (left (both_fresh (replicate 16384 0)) events).cabinet.first
 
 -- module 0 with all three tripped, and then one event more
 abbrev pub tripped_then : Event → ℕ
-tripped_then event = byte_after (set 0 7 20 ∷ reading 0 (new_reading 19 0x0501 0x8000) ∷ event ∷ [])
+tripped_then event = byte_after (set 0 7 20 ∷ reading 0 (measured 19 0x0501 0x8000) ∷ event ∷ [])
 
 pub record TripsHeld : Type 0 where
   pub none_yet : byte_after [] ≡ 0
-  pub by_sets : map (λ enable. byte_after (reading 0 (new_reading 19 0x0501 0x8000) ∷ set 0 enable 20 ∷ [])) (0 ∷ 1 ∷ 2 ∷ 4 ∷ 7 ∷ []) ≡ 0 ∷ 1 ∷ 2 ∷ 4 ∷ 7 ∷ []
-  pub by_readings : map (λ spare. byte_after (set 0 7 20 ∷ reading 0 (new_reading spare 0x0500 0x8001) ∷ [])) (19 ∷ 20 ∷ 101 ∷ []) ≡ 1 ∷ 0 ∷ 5 ∷ []
+  pub by_sets : map (λ enable. byte_after (reading 0 (measured 19 0x0501 0x8000) ∷ set 0 enable 20 ∷ [])) (0 ∷ 1 ∷ 2 ∷ 4 ∷ 7 ∷ []) ≡ 0 ∷ 1 ∷ 2 ∷ 4 ∷ 7 ∷ []
+  pub by_readings : map (λ spare. byte_after (set 0 7 20 ∷ reading 0 (measured spare 0x0500 0x8001) ∷ [])) (19 ∷ 20 ∷ 101 ∷ []) ≡ 1 ∷ 0 ∷ 5 ∷ []
   pub off_again : tripped_then (set 0 0 20) ≡ 0
-  pub left_alone : map tripped_then (set 0 0 101 ∷ set 0 8 20 ∷ reading 0 (new_reading 101 0 0) ∷ power 0 ∷ tick ∷ []) ≡ 7 ∷ 7 ∷ 7 ∷ 7 ∷ 7 ∷ []
-  pub not_by_the_other : map tripped_then (set 1 0 20 ∷ reading 1 (new_reading 100 0 0x8002) ∷ power 1 ∷ []) ≡ 7 ∷ 7 ∷ 7 ∷ []
+  pub left_alone : map tripped_then (set 0 0 101 ∷ set 0 8 20 ∷ reading 0 (measured 101 0 0) ∷ power 0 ∷ tick ∷ []) ≡ 7 ∷ 7 ∷ 7 ∷ 7 ∷ 7 ∷ []
+  pub not_by_the_other : map tripped_then (set 1 0 20 ∷ reading 1 (measured 100 0 0x8002) ∷ power 1 ∷ []) ≡ 7 ∷ 7 ∷ 7 ∷ []
