@@ -12,6 +12,10 @@ use program_files::{Broken, Log, PART, System, Unwritten};
 use rules::LOG_RECORD;
 use std::io;
 
+mod through;
+
+pub use through::go_through;
+
 // The buffer for an argument: the longest name of a file, and its end.
 pub const NAME: usize = 4096;
 
@@ -47,19 +51,20 @@ pub struct Logs {
     ghost standing: { Standing have size number left },
 }
 
-// The log that a program is in, or none, its last part, and its name.
+// The log that a program is in, or none, its last part, and its name. A program makes this once.
 #[derive(Drop)]
-struct Held {
-    log: Option<Log>,
-    part: [u8; PART],
-    name: [u8; NAME],
+pub struct Held {
+    pub log: Option<Log>,
+    pub part: [u8; PART],
+    pub name: [u8; NAME],
 }
 
 impl Logs {
     ghost use Rattle.program_logs.specs.Turns.{Next, NextOrNone, Left, after_part};
+    ghost use Rattle.program_logs.specs.Through.{Told};
 
     // Before the log that this argument names. A program's first is 1; the program itself is 0.
-    fn before(argument: usize) -> Logs
+    pub fn before(argument: usize) -> Logs
         ensures { (result.turn ≡ Nothing) × (result.argument ≡ argument) }
     {
         Logs {
@@ -135,10 +140,10 @@ impl Logs {
         }
         if let Some(reason) = self.failure {
             program_files::fail(rt, &held.name[..self.size], &reason);
-            return self.behind_part(Turn::Unreadable);
+            return self.behind_part(Turn::Unreadable).holding(Ok(0));
         }
         let short = self.have % LOG_RECORD != 0;
-        self.behind_part(Turn::End { short })
+        self.behind_part(Turn::End { short }).holding(Ok(0))
     }
 
     // The log that the next argument names, if there is one. One of which nothing can be read does not begin.
@@ -153,6 +158,10 @@ impl Logs {
         }
         let mut next = self.on_to(Turn::Unreadable);
         next.argument = argument + 1;
+        next.size = match program_files::arg(rt, argument, &mut held.name) {
+            Some(name) => name.len(),
+            None => 0,
+        };
         let Some(opened) = program_files::open_log(rt, argument, &mut held.name) else {
             return Some(next);
         };
@@ -171,7 +180,7 @@ impl Logs {
     }
 
     // The next turn, or none: after the last log.
-    fn next<R: System>(self, rt: &R, held: &mut Held) -> Option<Logs>
+    pub fn next<R: System>(self, rt: &R, held: &mut Held) -> Option<Logs>
         ensures { NextOrNone self result }
     {
         if self.left == 0 {
@@ -185,8 +194,8 @@ impl Logs {
     }
 
     // A log whose text could not be written is left.
-    fn told(self, shown: Result<(), Unwritten>) -> Logs
-        ensures { (result.left ≡ self.left) × (result.turn ≡ (if is_ok shown then self.turn else Nothing)) }
+    pub fn told(self, shown: Result<(), Unwritten>) -> Logs
+        ensures { Told self shown result }
     {
         let mut logs = self;
         if shown.is_err() {
@@ -194,27 +203,4 @@ impl Logs {
         }
         logs
     }
-}
-
-// Does a program's work at each turn: where it stands, the buffer, and the log's name. It stops where nobody reads any more what the work writes.
-pub fn go_through<R: System, W>(rt: &R, mut work: W) -> Result<(), Unwritten>
-where
-    W: FnMut(Logs, &[u8; PART], &[u8]) -> Result<(), Unwritten>,
-    requires { W.IsAlwaysCallable work }
-    ensures { IfErr result (λ unwritten. unwritten ≡ Closed) }
-{
-    let mut held = Held {
-        log: None,
-        part: [0u8; PART],
-        name: [0u8; NAME],
-    };
-    let mut logs = Logs::before(1);
-    while let Some(next) = logs.next(rt, &mut held) {
-        let shown = work(next, &held.part, &held.name[..next.size]);
-        if shown == Err(Unwritten::Closed) {
-            return shown;
-        }
-        logs = next.told(shown);
-    }
-    Ok(())
 }
