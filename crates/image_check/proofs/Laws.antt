@@ -3,7 +3,8 @@
 use mathlib.Core.{Path.{◌≡◌, refl, sym, ◌∙◌, ap, subst}, Bool.{Bool, true, false, ◌&&◌}, List.List}
 use Prim.Native.Nat.{ℕ, zero, suc, ◌+◌, ◌-◌, ◌*◌, ◌/◌, ◌≤◌, ◌<◌}
 use native.Mathlib.{Omega.arith}
-use lib.{ListN.{length, take, drop}, Seq.{drop-drop, length-take-le}}
+use lib.{ListN.{length, take, drop, length-drop}, Seq.{drop-drop, take-take, length-take-le}}
+use Rattle.std.proofs.lemmas.List.{drop-take}
 use Rattle.rules.{specs.Image.{good_record, good_size, version_of}, specs.Fault.{Fault, none, ◌of_record◌, record_fault, ◌or_else◌, records_fault, first_fault, judged, image_of, image_record}}
 use Rattle.std.specs.Prelude.{if◌then◌else◌}
 use Rattle.rules.{specs.Tests.{◌=?◌}, specs.declared.Reason.TheVariants.Size}
@@ -95,6 +96,19 @@ none_left {n} {version} {left} l short =
     let no_records : length left / 128 ≡ 0 = omega (arith, short) in
     let all : n - 0 ≡ n = omega arith in
     sym l.same ∙ (λ k. first_bad (no_records k) (n - no_records k) n version left) ∙ all
+
+-- two records split off at once are those that are split off one after the other
+pub halves : (left : List ℕ) {two after first second : List ℕ} → (two ≡ take 256 left) × (after ≡ drop 256 left) × (length after + 256 ≡ length left)
+    → first ≡ take 128 two → second ≡ drop (length two - 128) two
+    → ((first ≡ take 128 left) × (drop 128 left ≡ drop 128 left) × (length (drop 128 left) + 128 ≡ length left))
+    × ((second ≡ take 128 (drop 128 left)) × (after ≡ drop 128 (drop 128 left)) × (length after + 128 ≡ length (drop 128 left)))
+halves left {two} split first_is second_is =
+    let long : length two ≡ 256 = ap length split.0 ∙ length-take-le 256 left (omega (arith, split.2)) in
+    let middle : length two - 128 ≡ 128 = omega (arith, long) in
+    let behind = length-drop 128 left in (
+      (first_is ∙ ap (take 128) split.0 ∙ take-take 128 256 left (omega arith), refl, omega (arith, behind, split.2)),
+      (second_is ∙ (λ k. drop (middle k) (split.0 k)) ∙ drop-take 128 128 left, split.1 ∙ sym (drop-drop 128 128 left), omega (arith, behind, split.2)),
+    )
 
 -- two records split off that were tested by their fronts: the walk goes on behind both
 module _ {n version front : ℕ} {left bytes first behind second after : List ℕ} (l : Left n version left bytes) (few : n < 65536) (are : AreBytes bytes)

@@ -11,6 +11,9 @@ use bytes_numbers::FromBytes;
 use image_record::Record;
 use rules::{FirstFault, IMAGE_RECORD, Image, MOST_RECORDS, Reason, VERSION_PLACE};
 
+// The bytes of the two records of a turn: split off at once, which tests the length once.
+const TWO_RECORDS: usize = 2 * IMAGE_RECORD;
+
 // The records that are left behind the good ones, by twos: the first bad one of these is that of the whole. The record's front, its first eight bytes, goes up by one
 // with its number.
 fn good_twos(n: u16, version: u64, bytes: &[u8]) -> &[u8]
@@ -19,10 +22,9 @@ fn good_twos(n: u16, version: u64, bytes: &[u8]) -> &[u8]
 {
     let mut front = (n as u64) * 65536 + version % 4294967296 * 4294967296;
     let mut left = bytes;
-    while let Some((first, behind)) = left.split_first_chunk::<IMAGE_RECORD>() {
-        let Some((second, after)) = behind.split_first_chunk::<IMAGE_RECORD>() else {
-            return left;
-        };
+    while let Some((two, after)) = left.split_first_chunk::<TWO_RECORDS>() {
+        let first = two.first_chunk::<IMAGE_RECORD>().unwrap();
+        let second = two.last_chunk::<IMAGE_RECORD>().unwrap();
         if !image_record::good_two(front, version, first, second) {
             return left;
         }
