@@ -8,7 +8,9 @@ ghost use Rattle.program_logs.specs.declared.Turn.TheVariants.{Part, Nothing};
 ghost use Rattle.program_logs.specs.Standing.{Standing, part_size};
 ghost use Rattle.program_files.specs.declared.Unwritten.TheVariants.{Closed};
 
-use program_files::{Broken, Log, PART, System, Unwritten};
+// The length of the buffer that a part is read into, for who works on parts and has nothing to do with files.
+pub use program_files::PART;
+use program_files::{Broken, Log, System, Unwritten};
 use rules::LOG_RECORD;
 use std::io;
 

@@ -13,7 +13,7 @@ const TEXT: usize = 2048;
 fn report<R: System>(rt: &R, report: Report) -> Result<(), Unwritten> {
     let mut reporting = Reporting::on(report);
     program_logs::go_through(rt, |logs, buf, name| {
-        if reporting.turn(logs.turn, logs.part(buf)).is_err() {
+        if reporting.turn_in(logs, buf).is_err() {
             program_files::refuse(rt, name, b"log too many");
         }
         Ok(())

@@ -2,13 +2,13 @@
 // the log is refused and the report that was kept stays. Of a log that cannot be read to its end nothing is kept.
 #![tactic(auto)]
 
-ghost use Rattle.std.specs.Prelude.{◌≡◌, [], Ok};
+ghost use Rattle.std.specs.Prelude.{◌≡◌, [], Ok, take};
 ghost use Rattle.rules.specs.Record.{fresh_cabinet};
 ghost use Rattle.program_logs.specs.declared.Turn.TheVariants.{End};
 ghost use Rattle.report_tally.specs.Tally.{page_report};
 ghost use Rattle.report_turns.specs.Turned.{state_of, begins, turned, refuses, Leaves};
 
-use program_logs::Turn;
+use program_logs::{Logs, PART, Turn};
 use report_log::Going;
 use report_tally::{Counting, LogTooMany, Report};
 use rules::{ANSWER_ROOM, AREA_SIZE};
@@ -85,5 +85,12 @@ impl Reporting {
             Turn::End { short } => self.end(short),
             Turn::Unreadable | Turn::Nothing => Ok(()),
         }
+    }
+
+    // The turn that a program is in, with the part that fills the front of its buffer; an error refuses the log.
+    pub fn turn_in(&mut self, logs: Logs, buf: &[u8; PART]) -> Result<(), LogTooMany>
+        ensures { Leaves (turned logs.turn (state_of self.old) (take logs.have buf.now)) (refuses logs.turn (state_of self.old)) self.new result }
+    {
+        self.turn(logs.turn, logs.part(buf))
     }
 }
