@@ -15,7 +15,7 @@ use rules::{ANSWER_ROOM, AREA_SIZE};
 
 // The report that is kept; what is counted of the log, with the cabinet that its records have led to and its staging area; and the answers' buffer, which may hold
 // anything. A program makes this once.
-#[derive(Drop)]
+#[derive(Clone, Copy)]
 pub struct Reporting {
     pub kept: Report,
     pub going: Going,
