@@ -47,6 +47,16 @@ pub fn copy_at(out: &mut [u8], at: usize, from: &[u8])
     out[at..at + from.len()].copy_from_slice(from);
 }
 
+// Writes so many bytes of a number at a place, lowest first: its own eight hold it, and zeros follow them.
+pub fn put_at(out: &mut [u8], at: usize, width: usize, number: u64)
+    requires { at + width ≤ length out.old }
+    ensures { out.new ≡ splice at (le width number) out.old }
+{
+    let own = width.min(8);
+    copy_at(out, at, &number.to_le_bytes()[..own]);
+    put_zeros(out, at + own, width - own);
+}
+
 // A number that is written as so many bytes, lowest first. Two numbers of one value are the same.
 pub trait ToBytes {
     ghost width: { ℕ };
