@@ -1,7 +1,9 @@
 // Reading logs, which may be files or pipes.
 #![tactic(auto)]
 
-ghost use Rattle.std.specs.Prelude.{◌≤◌, ◌<◌, ◌+◌, ◌-◌, ◌^◌, length, IfOk, IfSome, IsTrue, MatchResult};
+ghost use Rattle.std.specs.Prelude.{◌≡◌, ◌≤◌, ◌<◌, ◌+◌, ◌-◌, ◌^◌, length, IfOk, IfSome, IsTrue, MatchResult};
+ghost use Rattle.std.specs.Process.{exit_status};
+ghost use Rattle.program_files.specs.Status.{status_number};
 
 use std::env::{Env, FillError};
 use std::fs::File;
@@ -81,6 +83,8 @@ pub enum Unwritten {
 
 // The exit status of a program: 0, or the one of a program that the system ends because nobody reads what it writes.
 impl From<Unwritten> for ExitCode {
+    ghost from_gives = { λ unwritten code. exit_status code ≡ status_number unwritten };
+
     fn from(unwritten: Unwritten) -> ExitCode {
         match unwritten {
             Unwritten::Closed => ExitCode::from(CLOSED),
@@ -160,7 +164,9 @@ pub fn fail<R: System>(rt: &R, what: &[u8], reason: &io::Error) {
 }
 
 // A reason without the error's number, which stands in brackets behind it.
-fn before_number(text: &[u8]) -> &[u8] {
+fn before_number(text: &[u8]) -> &[u8]
+    ensures { length result.now ≤ length text.now }
+{
     match text.iter().rposition(|byte| *byte == b'(') {
         Some(at) if 0 < at => &text[..at - 1],
         _ => text,
