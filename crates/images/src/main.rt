@@ -51,7 +51,9 @@ fn file<'a, R: System>(
     argument: usize,
     name: &mut [u8],
     input: &'a mut [u8],
-) -> Option<&'a [u8]> {
+) -> Option<&'a [u8]>
+    ensures { IfSome result (λ bytes. length bytes.now ≤ length input.old) }
+{
     let mut opened = program_files::open_log(rt, argument, name)?;
     let have = program_files::fill(rt, &mut opened.log, input)
         .inspect_err(|broken| program_files::fail(rt, opened.name, &broken.reason))
