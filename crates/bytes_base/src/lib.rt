@@ -28,7 +28,9 @@ pub fn copy(to: &mut [u8], from: &[u8])
     requires { length from.now ≤ length to.old }
     ensures { to.new ≡ splice 0 from.now to.old }
 {
-    to[..from.len()].copy_from_slice(from);
+    for place in 0..from.len() {
+        to[place] = from[place];
+    }
 }
 
 // Writes so many zeros at a place.
@@ -44,7 +46,7 @@ pub fn copy_at(out: &mut [u8], at: usize, from: &[u8])
     requires { at + length from.now ≤ length out.old }
     ensures { out.new ≡ splice at from.now out.old }
 {
-    out[at..at + from.len()].copy_from_slice(from);
+    copy(&mut out[at..at + from.len()], from);
 }
 
 // Writes so many bytes of a number at a place, lowest first: its own eight hold it, and zeros follow them.
