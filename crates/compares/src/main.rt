@@ -10,12 +10,12 @@ use program_files::{Log, PART, System, Unwritten};
 use program_logs::NAME;
 use std::process::ExitCode;
 
-// One of the two logs, its name, and how much of the buffer its last part fills: all of it before the first.
+// One of the two logs, its name, and how much of the buffer that it is lent its last part fills: all of it before the first.
 #[derive(Drop)]
 struct Side<'a> {
     log: Log,
     name: &'a [u8],
-    part: [u8; PART],
+    part: &'a mut [u8; PART],
     have: usize,
     ghost fits: { have ≤ 65280 },
 }
@@ -34,7 +34,7 @@ impl Side<'_> {
             self.have = 0;
             return true;
         }
-        match program_files::fill(rt, &mut self.log, &mut self.part) {
+        match program_files::fill(rt, &mut self.log, self.part) {
             Ok(have) => {
                 self.have = have;
                 true
@@ -88,6 +88,8 @@ fn compare<R: System>(rt: &R, first: &mut Side, second: &mut Side) -> Result<(),
 fn main(rt: HostRuntime) -> ExitCode {
     let mut name = [0u8; NAME];
     let mut other = [0u8; NAME];
+    let mut part = [0u8; PART];
+    let mut other_part = [0u8; PART];
     if program_files::arg_count(&rt) != 3 {
         rt.say(b"wants two logs\n");
         return ExitCode::SUCCESS;
@@ -101,13 +103,13 @@ fn main(rt: HostRuntime) -> ExitCode {
     let mut first = Side {
         log: first.log,
         name: first.name,
-        part: [0u8; PART],
+        part: &mut part,
         have: PART,
     };
     let mut second = Side {
         log: second.log,
         name: second.name,
-        part: [0u8; PART],
+        part: &mut other_part,
         have: PART,
     };
     match compare(&rt, &mut first, &mut second) {

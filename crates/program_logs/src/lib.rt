@@ -2,11 +2,10 @@
 #![tactic(auto)]
 
 ghost use Rattle.std.specs.Prelude.{◌+◌, ◌*◌, ◌/◌, ◌≤◌, ◌<◌, ◌≡◌, length, take};
-ghost use Rattle.std.specs.Prelude.{if◌then◌else◌, is_ok, IfSome, IfErr, MatchResult};
+ghost use Rattle.std.specs.Prelude.{if◌then◌else◌, IfSome, MatchResult};
 ghost use Rattle.rules.specs.Log.{record_size};
 ghost use Rattle.program_logs.specs.declared.Turn.TheVariants.{Part, Nothing};
 ghost use Rattle.program_logs.specs.Standing.{Standing, part_size};
-ghost use Rattle.program_files.specs.declared.Unwritten.TheVariants.{Closed};
 
 // The length of the buffer that a part is read into, for who works on parts and has nothing to do with files.
 pub use program_files::PART;
