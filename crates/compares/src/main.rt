@@ -10,12 +10,12 @@ use program_files::{Log, PART, System, Unwritten};
 use program_logs::NAME;
 use std::process::ExitCode;
 
-// One of the two logs, its name, and how much of the buffer that it is lent its last part fills: all of it before the first.
+// One of the two logs, its name, and how much of the buffer its last part fills: all of it before the first.
 #[derive(Drop)]
 struct Side<'a> {
     log: Log,
     name: &'a [u8],
-    part: &'a mut [u8; PART],
+    part: [u8; PART],
     have: usize,
     ghost fits: { have ≤ 65280 },
 }
@@ -34,7 +34,7 @@ impl Side<'_> {
             self.have = 0;
             return true;
         }
-        match program_files::fill(rt, &mut self.log, self.part) {
+        match program_files::fill(rt, &mut self.log, &mut self.part) {
             Ok(have) => {
                 self.have = have;
                 true
@@ -88,8 +88,6 @@ fn compare<R: System>(rt: &R, first: &mut Side, second: &mut Side) -> Result<(),
 fn main(rt: HostRuntime) -> ExitCode {
     let mut name = [0u8; NAME];
     let mut other = [0u8; NAME];
-    let mut part = [0u8; PART];
-    let mut other_part = [0u8; PART];
     if program_files::arg_count(&rt) != 3 {
         rt.say(b"wants two logs\n");
         return ExitCode::SUCCESS;
@@ -103,13 +101,13 @@ fn main(rt: HostRuntime) -> ExitCode {
     let mut first = Side {
         log: first.log,
         name: first.name,
-        part: &mut part,
+        part: [0u8; PART],
         have: PART,
     };
     let mut second = Side {
         log: second.log,
         name: second.name,
-        part: &mut other_part,
+        part: [0u8; PART],
         have: PART,
     };
     match compare(&rt, &mut first, &mut second) {
