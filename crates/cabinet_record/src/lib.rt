@@ -45,29 +45,29 @@ fn possible(c: Cabinet) -> bool
 pub fn own(c: Cabinet, named: u64) -> Device
     ensures { result ≡ device_of named c }
 {
-    match named {
-        0 => c.first,
-        _ => c.second,
+    if named == 0 {
+        return c.first;
     }
+    c.second
 }
 
 pub fn other(c: Cabinet, named: u64) -> Device
     ensures { result ≡ other_of named c }
 {
-    match named {
-        0 => c.second,
-        _ => c.first,
+    if named == 0 {
+        return c.second;
     }
+    c.first
 }
 
 // The module's new record in its place.
 pub fn with_device(c: Cabinet, named: u64, d: Device) -> Cabinet
     ensures { result ≡ with_device_at named d c }
 {
-    match named {
-        0 => Cabinet { first: d, ..c },
-        _ => Cabinet { second: d, ..c },
+    if named == 0 {
+        return Cabinet { first: d, ..c };
     }
+    Cabinet { second: d, ..c }
 }
 
 // R2, R5 and R3.
