@@ -77,7 +77,7 @@ fn put_bytes<const WIDTH: usize>(bytes: &[u8; WIDTH], out: &mut [u8], at: usize)
     requires { at + WIDTH ≤ length out.old }
     ensures { out.new ≡ splice at bytes.now out.old }
 {
-    out[at..at + WIDTH].copy_from_slice(bytes);
+    copy_at(out, at, bytes);
 }
 
 impl ToBytes for u8 {
