@@ -8,6 +8,7 @@ ghost use Rattle.program_logs.specs.Standing.{part_size};
 use compare_turns::{PLACES, TEXT, TURNS, Told};
 use program_files::{Log, PART, System, Unwritten};
 use program_logs::NAME;
+use std::io;
 use std::process::ExitCode;
 
 // One of the two logs, its name, and how much of the buffer its last part fills: all of it before the first.
@@ -26,21 +27,29 @@ impl Side<'_> {
         self.have < PART
     }
 
-    // The next part, and whether it could be read. A log that is over is not asked again. What cannot be read is named on standard error.
-    fn next<R: System>(&mut self, rt: &R) -> bool
+    // The next part, or why it could not be read. A log that is over is not asked again.
+    fn next<R: System>(&mut self, rt: &R) -> io::Result<()>
         ensures { self.old.have < part_size → self.new.have ≡ 0 }
     {
         if self.have < PART {
             self.have = 0;
-            return true;
+            return Ok(());
         }
         match program_files::fill(rt, &mut self.log, &mut self.part) {
             Ok(have) => {
                 self.have = have;
-                true
+                Ok(())
             }
-            Err(broken) => {
-                program_files::fail(rt, self.name, &broken.reason);
+            Err(broken) => Err(broken.reason),
+        }
+    }
+
+    // Whether the next part was read. What could not be is named on standard error, once both logs were asked for theirs.
+    fn was_read<R: System>(&self, rt: &R, next: io::Result<()>) -> bool {
+        match next {
+            Ok(()) => true,
+            Err(reason) => {
+                program_files::fail(rt, self.name, &reason);
                 false
             }
         }
@@ -56,8 +65,10 @@ fn go_through<R: System>(
 ) -> Option<Told> {
     let mut told = Told::begin();
     for turn in 0..TURNS {
-        let first_read = first.next(rt);
-        let second_read = second.next(rt);
+        let of_first = first.next(rt);
+        let of_second = second.next(rt);
+        let first_read = first.was_read(rt, of_first);
+        let second_read = second.was_read(rt, of_second);
         if !first_read || !second_read {
             return None;
         }
