@@ -23,7 +23,7 @@ pub fn same(a: &[u8], b: &[u8]) -> bool
         .fold(true, |equal, (x, y)| equal & (*x == *y))
 }
 
-// Copies the bytes of `from` to the front of `to`.
+// Copies the bytes of `from` to the front of `to`, by a loop: `copy_from_slice` is a memmove, and the archive for C is to call memcpy and memset alone (include/module.h).
 pub fn copy(to: &mut [u8], from: &[u8])
     requires { length from.now ≤ length to.old }
     ensures { to.new ≡ splice 0 from.now to.old }
@@ -72,7 +72,7 @@ pub trait ToBytes {
     ghost same: { (n other : Self) → value n ≡ value other → n ≡ other };
 }
 
-// Writes a number's bytes at a place.
+// Writes a number's bytes at a place: by the loop too, which becomes one write.
 fn put_bytes<const WIDTH: usize>(bytes: &[u8; WIDTH], out: &mut [u8], at: usize)
     requires { at + WIDTH ≤ length out.old }
     ensures { out.new ≡ splice at bytes.now out.old }
